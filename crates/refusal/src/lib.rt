@@ -6,7 +6,7 @@ ghost use Rattle.refusal.specs.Numbers.{number-of};
 pub enum Refusal {
     // a word, line or node that is not there
     Outside = 1,
-    // no steps left
+    // no steps left, or the logbook has met that before
     NoPower = 2,
     // the word's live and firm contents differ
     Unsettled = 3,
