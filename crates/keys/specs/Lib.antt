@@ -1,0 +1,9 @@
+pub mod Kind
+pub mod Making
+pub mod InWords
+pub mod Gregorian
+pub mod Dates
+pub mod Stamps
+pub mod Identities
+pub mod Ports
+pub mod Calendar
