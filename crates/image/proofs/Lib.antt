@@ -1,0 +1,4 @@
+pub mod Images
+pub mod Lengths
+pub mod Live
+pub mod Octets
