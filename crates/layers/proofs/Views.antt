@@ -54,7 +54,7 @@ size-after-store m i w = cond-both (isOk (store-answer m i)) _ _ (λ x. size-of 
 size-after-flush : (m : Words) (l : ℕ) → size-of (after-flush m l) ≡ size-of m
 size-after-flush m l = cond-both (isOk (flush-answer m l)) _ _ (λ x. size-of x ≡ size-of m) (λ _. refl) (λ _. refl)
 
-size-after-settle : (m : Words) (extent : ℕ) (origin : ℕ → ℕ) (choice : List ℕ) (steps : ℕ) → size-of (after-settle m extent origin choice steps) ≡ size-of m
+pub size-after-settle : (m : Words) (extent : ℕ) (origin : ℕ → ℕ) (choice : List ℕ) (steps : ℕ) → size-of (after-settle m extent origin choice steps) ≡ size-of m
 size-after-settle m extent origin choice steps = cond-both (isOk (settle-answer extent choice)) _ _ (λ x. size-of x ≡ size-of m) (λ _. length-tabled (size-of m) _) (λ _. refl)
 
 module _ (line : ℕ → ℕ) (n : ℕ) where

@@ -1,4 +1,5 @@
 ghost use mathlib.Core.Path.{_≡_};
+ghost use Prim.Native.Nat.{ℕ};
 ghost use Rattle.layers.specs.Layers.{Numbering, flush-below, layered, layered-lawful, line-below, margin, place, store-below, word-below};
 ghost use Rattle.memory.specs.Meaning.{Freely, after-flush, after-settle, after-store, flush-answer, read-answer, settle-answer, size-of, store-answer};
 use memory::Memory;
@@ -80,6 +81,7 @@ pub impl<M: Memory> Memory for Margin<M> as MarginMemory {
     fn read(&mut self, at: usize) -> Result<u64, Refusal>
         ensures answer { λ r. ⌜ r ≡ read-answer (layered (margin (now (self .entry) .hidden)) (M·Memory .meaning (now (self .entry) .below))) at ⌝ }
         ensures after { λ _. ⌜ layered (margin (now (self .exit) .hidden)) (M·Memory .meaning (now (self .exit) .below)) ≡ layered (margin (now (self .entry) .hidden)) (M·Memory .meaning (now (self .entry) .below)) ⌝ }
+        ensures kept { λ _. ⌜ now (self .exit) .hidden ≡ now (self .entry) .hidden ⌝ }
         ensures below { λ _. ⌜ M·Memory .meaning (now (self .exit) .below) ≡ M·Memory .meaning (now (self .entry) .below) ⌝ }
     {
         let Some(at) = self.word_below(at) else {
@@ -91,6 +93,7 @@ pub impl<M: Memory> Memory for Margin<M> as MarginMemory {
     fn store(&mut self, at: usize, word: u64) -> Result<(), Refusal>
         ensures answer { λ r. ⌜ r ≡ store-answer (layered (margin (now (self .entry) .hidden)) (M·Memory .meaning (now (self .entry) .below))) at ⌝ }
         ensures after { λ _. ⌜ layered (margin (now (self .exit) .hidden)) (M·Memory .meaning (now (self .exit) .below)) ≡ after-store (layered (margin (now (self .entry) .hidden)) (M·Memory .meaning (now (self .entry) .below))) at word ⌝ }
+        ensures kept { λ _. ⌜ now (self .exit) .hidden ≡ now (self .entry) .hidden ⌝ }
         ensures below { λ _. ⌜ M·Memory .meaning (now (self .exit) .below) ≡ store-below (margin (now (self .entry) .hidden)) (M·Memory .meaning (now (self .entry) .below)) at word ⌝ }
     {
         let Some(at) = self.word_below(at) else {
@@ -102,6 +105,7 @@ pub impl<M: Memory> Memory for Margin<M> as MarginMemory {
     fn flush(&mut self, line: usize) -> Result<(), Refusal>
         ensures answer { λ r. ⌜ r ≡ flush-answer (layered (margin (now (self .entry) .hidden)) (M·Memory .meaning (now (self .entry) .below))) line ⌝ }
         ensures after { λ _. ⌜ layered (margin (now (self .exit) .hidden)) (M·Memory .meaning (now (self .exit) .below)) ≡ after-flush (layered (margin (now (self .entry) .hidden)) (M·Memory .meaning (now (self .entry) .below))) line ⌝ }
+        ensures kept { λ _. ⌜ now (self .exit) .hidden ≡ now (self .entry) .hidden ⌝ }
         ensures below { λ _. ⌜ M·Memory .meaning (now (self .exit) .below) ≡ flush-below (margin (now (self .entry) .hidden)) (M·Memory .meaning (now (self .entry) .below)) line ⌝ }
     {
         let Some(line) = self.line_below(line) else {
@@ -116,6 +120,8 @@ pub impl<M: Settle> Settle for Margin<M> as MarginSettle {
 
     ghost origin = { λ s i. M·Settle .origin (s .below) (place (margin (s .hidden) .line (size-of (M·Memory .meaning (s .below)))) i) };
 
+    ghost bottom = { λ s. M·Settle .bottom (s .below) };
+
     fn choices(&self) -> usize {
         self.below.choices()
     }
@@ -123,7 +129,10 @@ pub impl<M: Settle> Settle for Margin<M> as MarginSettle {
     fn settle(&mut self, choice: &[u64], steps: u64) -> Result<(), Refusal>
         ensures answer { λ r. ⌜ r ≡ settle-answer (M·Settle .extent (now (self .entry) .below)) (now (choice .entry)) ⌝ }
         ensures after { λ _. ⌜ layered (margin (now (self .exit) .hidden)) (M·Memory .meaning (now (self .exit) .below)) ≡ after-settle (layered (margin (now (self .entry) .hidden)) (M·Memory .meaning (now (self .entry) .below))) (M·Settle .extent (now (self .entry) .below)) (λ i. M·Settle .origin (now (self .entry) .below) (place (margin (now (self .entry) .hidden) .line (size-of (M·Memory .meaning (now (self .entry) .below)))) i)) (now (choice .entry)) steps ⌝ }
+        ensures whole { λ _. ⌜ M·Settle .bottom (now (self .exit) .below) ≡ after-settle (M·Settle .bottom (now (self .entry) .below)) (M·Settle .extent (now (self .entry) .below)) (λ i. i) (now (choice .entry)) steps ⌝ }
+        ensures stays { λ _. ⌜ (M·Settle .extent (now (self .exit) .below) ≡ M·Settle .extent (now (self .entry) .below)) × ((i : ℕ) → M·Settle .origin (now (self .exit) .below) (place (margin (now (self .exit) .hidden) .line (size-of (M·Memory .meaning (now (self .exit) .below)))) i) ≡ M·Settle .origin (now (self .entry) .below) (place (margin (now (self .entry) .hidden) .line (size-of (M·Memory .meaning (now (self .entry) .below)))) i)) ⌝ }
         ensures free { λ _. ⌜ Freely (layered (margin (now (self .entry) .hidden)) (M·Memory .meaning (now (self .entry) .below))) (M·Settle .extent (now (self .entry) .below)) (λ i. M·Settle .origin (now (self .entry) .below) (place (margin (now (self .entry) .hidden) .line (size-of (M·Memory .meaning (now (self .entry) .below)))) i)) ⌝ }
+        ensures kept { λ _. ⌜ now (self .exit) .hidden ≡ now (self .entry) .hidden ⌝ }
         ensures below { λ _. ⌜ M·Memory .meaning (now (self .exit) .below) ≡ after-settle (M·Memory .meaning (now (self .entry) .below)) (M·Settle .extent (now (self .entry) .below)) (M·Settle .origin (now (self .entry) .below)) (now (choice .entry)) steps ⌝ }
     {
         self.below.settle(choice, steps)

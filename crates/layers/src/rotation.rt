@@ -1,5 +1,5 @@
 ghost use mathlib.Core.Path.{_≡_};
-ghost use Prim.Native.Nat.{_+_, _%_, _^_, _<_};
+ghost use Prim.Native.Nat.{ℕ, _+_, _%_, _^_, _<_};
 ghost use Rattle.layers.specs.Layers.{Numbering, flush-below, layered, layered-lawful, line-below, place, rotation, store-below, word-below};
 ghost use Rattle.memory.specs.Meaning.{Freely, after-flush, after-settle, after-store, flush-answer, read-answer, settle-answer, size-of, store-answer};
 use memory::Memory;
@@ -87,6 +87,7 @@ pub impl<M: Memory> Memory for Rotation<M> as RotationMemory {
     fn read(&mut self, at: usize) -> Result<u64, Refusal>
         ensures answer { λ r. ⌜ r ≡ read-answer (layered (rotation (now (self .entry) .by)) (M·Memory .meaning (now (self .entry) .below))) at ⌝ }
         ensures after { λ _. ⌜ layered (rotation (now (self .exit) .by)) (M·Memory .meaning (now (self .exit) .below)) ≡ layered (rotation (now (self .entry) .by)) (M·Memory .meaning (now (self .entry) .below)) ⌝ }
+        ensures kept { λ _. ⌜ now (self .exit) .by ≡ now (self .entry) .by ⌝ }
         ensures below { λ _. ⌜ M·Memory .meaning (now (self .exit) .below) ≡ M·Memory .meaning (now (self .entry) .below) ⌝ }
     {
         let Some(at) = self.word_below(at) else {
@@ -98,6 +99,7 @@ pub impl<M: Memory> Memory for Rotation<M> as RotationMemory {
     fn store(&mut self, at: usize, word: u64) -> Result<(), Refusal>
         ensures answer { λ r. ⌜ r ≡ store-answer (layered (rotation (now (self .entry) .by)) (M·Memory .meaning (now (self .entry) .below))) at ⌝ }
         ensures after { λ _. ⌜ layered (rotation (now (self .exit) .by)) (M·Memory .meaning (now (self .exit) .below)) ≡ after-store (layered (rotation (now (self .entry) .by)) (M·Memory .meaning (now (self .entry) .below))) at word ⌝ }
+        ensures kept { λ _. ⌜ now (self .exit) .by ≡ now (self .entry) .by ⌝ }
         ensures below { λ _. ⌜ M·Memory .meaning (now (self .exit) .below) ≡ store-below (rotation (now (self .entry) .by)) (M·Memory .meaning (now (self .entry) .below)) at word ⌝ }
     {
         let Some(at) = self.word_below(at) else {
@@ -109,6 +111,7 @@ pub impl<M: Memory> Memory for Rotation<M> as RotationMemory {
     fn flush(&mut self, line: usize) -> Result<(), Refusal>
         ensures answer { λ r. ⌜ r ≡ flush-answer (layered (rotation (now (self .entry) .by)) (M·Memory .meaning (now (self .entry) .below))) line ⌝ }
         ensures after { λ _. ⌜ layered (rotation (now (self .exit) .by)) (M·Memory .meaning (now (self .exit) .below)) ≡ after-flush (layered (rotation (now (self .entry) .by)) (M·Memory .meaning (now (self .entry) .below))) line ⌝ }
+        ensures kept { λ _. ⌜ now (self .exit) .by ≡ now (self .entry) .by ⌝ }
         ensures below { λ _. ⌜ M·Memory .meaning (now (self .exit) .below) ≡ flush-below (rotation (now (self .entry) .by)) (M·Memory .meaning (now (self .entry) .below)) line ⌝ }
     {
         let Some(line) = self.line_below(line) else {
@@ -123,6 +126,8 @@ pub impl<M: Settle> Settle for Rotation<M> as RotationSettle {
 
     ghost origin = { λ s i. M·Settle .origin (s .below) (place (rotation (s .by) .line (size-of (M·Memory .meaning (s .below)))) i) };
 
+    ghost bottom = { λ s. M·Settle .bottom (s .below) };
+
     fn choices(&self) -> usize {
         self.below.choices()
     }
@@ -130,7 +135,10 @@ pub impl<M: Settle> Settle for Rotation<M> as RotationSettle {
     fn settle(&mut self, choice: &[u64], steps: u64) -> Result<(), Refusal>
         ensures answer { λ r. ⌜ r ≡ settle-answer (M·Settle .extent (now (self .entry) .below)) (now (choice .entry)) ⌝ }
         ensures after { λ _. ⌜ layered (rotation (now (self .exit) .by)) (M·Memory .meaning (now (self .exit) .below)) ≡ after-settle (layered (rotation (now (self .entry) .by)) (M·Memory .meaning (now (self .entry) .below))) (M·Settle .extent (now (self .entry) .below)) (λ i. M·Settle .origin (now (self .entry) .below) (place (rotation (now (self .entry) .by) .line (size-of (M·Memory .meaning (now (self .entry) .below)))) i)) (now (choice .entry)) steps ⌝ }
+        ensures whole { λ _. ⌜ M·Settle .bottom (now (self .exit) .below) ≡ after-settle (M·Settle .bottom (now (self .entry) .below)) (M·Settle .extent (now (self .entry) .below)) (λ i. i) (now (choice .entry)) steps ⌝ }
+        ensures stays { λ _. ⌜ (M·Settle .extent (now (self .exit) .below) ≡ M·Settle .extent (now (self .entry) .below)) × ((i : ℕ) → M·Settle .origin (now (self .exit) .below) (place (rotation (now (self .exit) .by) .line (size-of (M·Memory .meaning (now (self .exit) .below)))) i) ≡ M·Settle .origin (now (self .entry) .below) (place (rotation (now (self .entry) .by) .line (size-of (M·Memory .meaning (now (self .entry) .below)))) i)) ⌝ }
         ensures free { λ _. ⌜ Freely (layered (rotation (now (self .entry) .by)) (M·Memory .meaning (now (self .entry) .below))) (M·Settle .extent (now (self .entry) .below)) (λ i. M·Settle .origin (now (self .entry) .below) (place (rotation (now (self .entry) .by) .line (size-of (M·Memory .meaning (now (self .entry) .below)))) i)) ⌝ }
+        ensures kept { λ _. ⌜ now (self .exit) .by ≡ now (self .entry) .by ⌝ }
         ensures below { λ _. ⌜ M·Memory .meaning (now (self .exit) .below) ≡ after-settle (M·Memory .meaning (now (self .entry) .below)) (M·Settle .extent (now (self .entry) .below)) (M·Settle .origin (now (self .entry) .below)) (now (choice .entry)) steps ⌝ }
     {
         self.below.settle(choice, steps)

@@ -1,4 +1,5 @@
 ghost use mathlib.Core.Path.{_≡_};
+ghost use Prim.Native.Nat.{ℕ};
 ghost use denote.Ref.{name, now as held};
 ghost use Rattle.makes.specs.Makes.{buffered-lawful, buffered-words, shared, unshared};
 ghost use Rattle.memory.specs.Meaning.{Freely, after-flush, after-settle, after-store, flush-answer, read-answer, settle-answer, store-answer};
@@ -130,6 +131,8 @@ pub impl Settle for Buffered<'_> as BufferedSettle {
 
     ghost origin = { λ _ i. i };
 
+    ghost bottom = { λ s. buffered-words (held (s .live)) (held (s .firm)) (s .steps) };
+
     fn choices(&self) -> usize {
         self.shared()
     }
@@ -137,6 +140,8 @@ pub impl Settle for Buffered<'_> as BufferedSettle {
     fn settle(&mut self, choice: &[u64], steps: u64) -> Result<(), Refusal>
         ensures answer { λ r. ⌜ r ≡ settle-answer (shared (now (now (self .entry) .live)) (now (now (self .entry) .firm))) (now (choice .entry)) ⌝ }
         ensures after { λ _. ⌜ buffered-words (now (now (self .exit) .live)) (now (now (self .exit) .firm)) (now (self .exit) .steps) ≡ after-settle (buffered-words (now (now (self .entry) .live)) (now (now (self .entry) .firm)) (now (self .entry) .steps)) (shared (now (now (self .entry) .live)) (now (now (self .entry) .firm))) (λ i. i) (now (choice .entry)) steps ⌝ }
+        ensures whole { λ _. ⌜ buffered-words (now (now (self .exit) .live)) (now (now (self .exit) .firm)) (now (self .exit) .steps) ≡ after-settle (buffered-words (now (now (self .entry) .live)) (now (now (self .entry) .firm)) (now (self .entry) .steps)) (shared (now (now (self .entry) .live)) (now (now (self .entry) .firm))) (λ i. i) (now (choice .entry)) steps ⌝ }
+        ensures stays { λ _. ⌜ (shared (now (now (self .exit) .live)) (now (now (self .exit) .firm)) ≡ shared (now (now (self .entry) .live)) (now (now (self .entry) .firm))) × ((i : ℕ) → i ≡ i) ⌝ }
         ensures free { λ _. ⌜ Freely (buffered-words (now (now (self .entry) .live)) (now (now (self .entry) .firm)) (now (self .entry) .steps)) (shared (now (now (self .entry) .live)) (now (now (self .entry) .firm))) (λ i. i) ⌝ }
         ensures lent { λ _. ⌜ (name (now (self .exit) .live) ≡ name (now (self .entry) .live)) × (name (now (self .exit) .firm) ≡ name (now (self .entry) .firm)) ⌝ }
         ensures rest { λ _. ⌜ unshared (now (now (self .exit) .live)) (now (now (self .exit) .firm)) ≡ unshared (now (now (self .entry) .live)) (now (now (self .entry) .firm)) ⌝ }

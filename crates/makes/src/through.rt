@@ -1,4 +1,5 @@
 ghost use mathlib.Core.Path.{_≡_};
+ghost use Prim.Native.Nat.{ℕ};
 ghost use denote.Ref.{name, now as held};
 ghost use Rattle.memory.specs.Meaning.{Freely, after-flush, after-settle, after-store, flush-answer, read-answer, settle-answer, store-answer};
 ghost use Rattle.makes.specs.Makes.{through-lawful, through-words};
@@ -79,6 +80,8 @@ pub impl Settle for Through<'_> as ThroughSettle {
 
     ghost origin = { λ _ i. i };
 
+    ghost bottom = { λ s. through-words (held (s .run)) };
+
     fn choices(&self) -> usize {
         0
     }
@@ -87,6 +90,8 @@ pub impl Settle for Through<'_> as ThroughSettle {
     fn settle(&mut self, choice: &[u64], _steps: u64) -> Result<(), Refusal>
         ensures answer { λ r. ⌜ r ≡ settle-answer 0 (now (choice .entry)) ⌝ }
         ensures after { λ _. ⌜ through-words (now (now (self .exit) .run)) ≡ after-settle (through-words (now (now (self .entry) .run))) 0 (λ i. i) (now (choice .entry)) «_steps» ⌝ }
+        ensures whole { λ _. ⌜ through-words (now (now (self .exit) .run)) ≡ after-settle (through-words (now (now (self .entry) .run))) 0 (λ i. i) (now (choice .entry)) «_steps» ⌝ }
+        ensures stays { λ _. ⌜ (_≡_ {A = ℕ} 0 0) × ((i : ℕ) → i ≡ i) ⌝ }
         ensures free { λ _. ⌜ Freely (through-words (now (now (self .entry) .run))) 0 (λ i. i) ⌝ }
         ensures lent { λ _. ⌜ name (now (self .exit) .run) ≡ name (now (self .entry) .run) ⌝ }
     {

@@ -40,6 +40,9 @@ pub trait Settle: Memory {
     // The word of the make at the bottom that a word lies on.
     ghost origin: { Self → ℕ → ℕ };
 
+    // What the make at the bottom means, with the words that layers hide.
+    ghost bottom: { Self → Words };
+
     // How long a choice run must be.
     fn choices(&self) -> usize
         ensures { λ r. ⌜ r ≡ extent (now (self .entry)) ⌝ };
@@ -48,6 +51,8 @@ pub trait Settle: Memory {
     fn settle(&mut self, choice: &[u64], steps: u64) -> Result<(), Refusal>
         ensures answer { λ r. ⌜ r ≡ settle-answer (extent (now (self .entry))) (now (choice .entry)) ⌝ }
         ensures after { λ _. ⌜ Self·Memory .meaning (now (self .exit)) ≡ after-settle (Self·Memory .meaning (now (self .entry))) (extent (now (self .entry))) (origin (now (self .entry))) (now (choice .entry)) steps ⌝ }
+        ensures whole { λ _. ⌜ bottom (now (self .exit)) ≡ after-settle (bottom (now (self .entry))) (extent (now (self .entry))) (λ i. i) (now (choice .entry)) steps ⌝ }
+        ensures stays { λ _. ⌜ (extent (now (self .exit)) ≡ extent (now (self .entry))) × ((i : ℕ) → origin (now (self .exit)) i ≡ origin (now (self .entry)) i) ⌝ }
         ensures free { λ _. ⌜ Freely (Self·Memory .meaning (now (self .entry))) (extent (now (self .entry))) (origin (now (self .entry))) ⌝ };
 }
 
@@ -55,6 +60,8 @@ pub trait Settle: Memory {
 pub fn cut<M: Settle>(memory: &mut M, choice: &[u64], steps: u64) -> Result<(), Refusal>
     ensures answer { λ r. ⌜ r ≡ settle-answer (M·Settle .extent (now (memory .entry))) (now (choice .entry)) ⌝ }
     ensures after { λ _. ⌜ M·Memory .meaning (now (memory .exit)) ≡ after-settle (M·Memory .meaning (now (memory .entry))) (M·Settle .extent (now (memory .entry))) (M·Settle .origin (now (memory .entry))) (now (choice .entry)) steps ⌝ }
+    ensures whole { λ _. ⌜ M·Settle .bottom (now (memory .exit)) ≡ after-settle (M·Settle .bottom (now (memory .entry))) (M·Settle .extent (now (memory .entry))) (λ i. i) (now (choice .entry)) steps ⌝ }
+    ensures stays { λ _. ⌜ (M·Settle .extent (now (memory .exit)) ≡ M·Settle .extent (now (memory .entry))) × ((i : ℕ) → M·Settle .origin (now (memory .exit)) i ≡ M·Settle .origin (now (memory .entry)) i) ⌝ }
     ensures free { λ _. ⌜ Freely (M·Memory .meaning (now (memory .entry))) (M·Settle .extent (now (memory .entry))) (M·Settle .origin (now (memory .entry))) ⌝ }
     ensures mixed { λ r. ⌜ (r ≡ Ok tt → Cut-of (M·Memory .meaning (now (memory .entry))) (M·Memory .meaning (now (memory .exit)))) ⌝ }
     ensures settled { λ r. ⌜ (r ≡ Ok tt → Settled (M·Memory .meaning (now (memory .exit)))) ⌝ }

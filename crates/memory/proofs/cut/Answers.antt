@@ -9,6 +9,8 @@ returns g c =
     record {
       answer = c .settle .ensures .answer;
       after = c .settle .ensures .after;
+      whole = c .settle .ensures .whole;
+      stays = c .settle .ensures .stays;
       free = c .settle .ensures .free;
       mixed = λ ok. of (sym ok ∙ c .settle .ensures .answer) (c .settle .ensures .after) .0;
       settled = λ ok. of (sym ok ∙ c .settle .ensures .answer) (c .settle .ensures .after) .1;

@@ -7,10 +7,11 @@ pub returns-in-rest : need.returns-in-rest
 returns-in-rest g c = record {
   answer = read-none (margin (c .args .self .now .hidden)) (g .M·Memory .meaning (c .args .self .now .below)) (c .args .at) (c .in-rest .ensures tt);
   after = refl;
+  kept = refl;
   below = refl;
 }
 
 pub returns : need.returns
 returns g c =
     let done = read-some (margin-sound (c .args .self .now .hidden)) (g .M·Memory .laws (c .args .self .now .below)) (c .args .at) (c .in-Some .ensures tt) (c .read .ensures .answer) (c .read .ensures .after) in
-    record { answer = done .0; after = done .1; below = c .read .ensures .after }
+    record { answer = done .0; after = done .1; kept = refl; below = c .read .ensures .after }
