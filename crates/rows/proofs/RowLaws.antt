@@ -59,5 +59,6 @@ rows = record {
   first-of-2024 = refl;
   new-year = λ a b ms e f. rw (year-of 2023 365 86399999 a e, year-of 2024 1 ms b f);
   words = λ s e. form-of 2024 366 0 s e;
+  leaf-64 = refl;
   line-18-of-19 = refl;
 }

@@ -1,4 +1,4 @@
--- Worked rows of the rules on keys and layers, by the definitions that the contracts cite.
+-- Worked rows of the rules on keys, layout and layers, by the definitions that the contracts cite.
 use mathlib.Core.Path.{_≡_}
 use mathlib.Core.Bool.{true}
 use Prim.Native.Nat.{ℕ, _*_, _<_}
@@ -8,6 +8,7 @@ use Rattle.refusal.specs.declared.Refusal.the-variants.{NotAKey}
 use Rattle.keys.specs.Stamps.{stamp-of, stamp-kind}
 use Rattle.keys.specs.Ports.{port-of}
 use Rattle.keys.specs.declared.stamp.Stamp.{Stamp}
+use Rattle.leaves.specs.Layout.{leaf-at}
 use Rattle.layers.specs.Layers.{line-below, rotation}
 use Rattle.std.specs.declared.option.Option.the-variants.{Some}
 
@@ -28,5 +29,7 @@ pub record Rows : Type 0 where
   pub new-year : (a b : Stamp) (ms : ℕ) → stamp-of 2023 365 86399999 ≡ Ok a → stamp-of 2024 1 ms ≡ Ok b → stamp-kind .before a b ≡ true
   -- the words of 2024 day 366 millisecond 0
   pub words : (s : Stamp) → stamp-of 2024 366 0 ≡ Ok s → stamp-kind .form s ≡ (0, 1036654)
+  -- the last leaf of 64
+  pub leaf-64 : leaf-at 64 ≡ 4544
   -- 19 lines turned by 1
   pub line-18-of-19 : line-below (rotation 1) (8 * 19) 18 ≡ Some 0

@@ -1,0 +1,3 @@
+pub mod BoundLaws
+pub mod FootprintLaws
+pub mod OpensLaws

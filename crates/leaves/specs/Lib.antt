@@ -1,0 +1,5 @@
+pub mod Layout
+pub mod Pairs
+pub mod Opening
+pub mod Asking
+pub mod Ascent
