@@ -1,0 +1,9 @@
+pub mod NodeLaws
+pub mod SearchLaws
+pub mod PlaceLaws
+pub mod BuildLaws
+pub mod LocateLaws
+pub mod ChangeLaws
+pub mod ListLaws
+pub mod ShowLaws
+pub mod KeepingLaws
