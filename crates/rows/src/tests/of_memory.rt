@@ -45,3 +45,13 @@ fn mixed() -> Result<(), Fail> {
     check_eq(m.read(9), Ok(0))?;
     check_eq(m.read(16), Err(Refusal::Outside))
 }
+
+// A through memory over a part of a longer run reaches that part alone.
+#[test]
+fn part() -> Result<(), Fail> {
+    let mut run = [5; 20];
+    let mut m = Through::new(&mut run[3..19]);
+    check_eq(m.store(0, 7), Ok(()))?;
+    check_eq(m.store(16, 7), Err(Refusal::Outside))?;
+    check_eq((run[2], run[3], run[19]), (5, 7, 5))
+}
