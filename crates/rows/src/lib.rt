@@ -1,4 +1,5 @@
 //! Worked rows of the rules: proved as one theorem, and tried as short tests of the crates below.
+#![tactic(auto)]
 ghost use Rattle.rows.specs.Rows.{Rows};
 
 #[cfg(test)]

@@ -1,4 +1,5 @@
 //! The program: shows one real task from beginning to end, as tables that a person can read.
+#![tactic(auto)]
 use std::io;
 
 mod correction;
