@@ -50,7 +50,7 @@ pub trait Key: Copy {
 
 // Which of two keys stands before the other, if they are not one key.
 pub fn compare<K: Key>(a: &K, b: &K) -> Ordering
-    ensures { MatchOrdering result (kind.before a.now b.now ≡ true) (a.now ≡ b.now) (kind.before b.now a.now ≡ true) }
+    ensures { MatchOrdering result (K.kind.before a.now b.now ≡ true) (a.now ≡ b.now) (K.kind.before b.now a.now ≡ true) }
 {
     if a.before(b) {
         Ordering::Less
@@ -63,15 +63,15 @@ pub fn compare<K: Key>(a: &K, b: &K) -> Ordering
 
 // The later of two pairs of words, where a pair that is no key counts as later than every key.
 pub fn greater<K: Key>(a: (u64, u64), b: (u64, u64)) -> (u64, u64)
-    ensures chosen { result ≡ (if (in_words kind).before a b then b else a) }
-    ensures latest { ((in_words kind).before result a ≡ false) × ((in_words kind).before result b ≡ false) }
+    ensures chosen { result ≡ (if (in_words K.kind).before a b then b else a) }
+    ensures latest { ((in_words K.kind).before result a ≡ false) × ((in_words K.kind).before result b ≡ false) }
 {
     if K::pair_before(a, b) { b } else { a }
 }
 
 // Which of two pairs of words stands before the other, if they are not one pair.
 pub fn compare_words<K: Key>(a: (u64, u64), b: (u64, u64)) -> Ordering
-    ensures { MatchOrdering result ((in_words kind).before a b ≡ true) (a ≡ b) ((in_words kind).before b a ≡ true) }
+    ensures { MatchOrdering result ((in_words K.kind).before a b ≡ true) (a ≡ b) ((in_words K.kind).before b a ≡ true) }
 {
     match (K::pair_before(a, b), K::pair_before(b, a)) {
         (true, _) => Ordering::Less,
@@ -82,5 +82,5 @@ pub fn compare_words<K: Key>(a: (u64, u64), b: (u64, u64)) -> Ordering
 
 // The order of all pairs of words has the laws of an order, whatever the kind.
 pub fn word_order_stands<K: Key>()
-    ensures { WordOrdered (in_words kind) }
+    ensures { WordOrdered (in_words K.kind) }
 {}

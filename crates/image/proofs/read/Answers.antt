@@ -8,30 +8,30 @@ use Rattle.image.proofs.Images.{image_of_words}
 use Rattle.image.proofs.Lengths.{eight_each, granted, refused}
 use Rattle.image.proofs.read.Goals as goal
 
-pub returns-in-err-check-length : goal.returns-in-err-check-length
-returns-in-err-check-length c =
-    let p = err_from_is_err_and c.from-residual.result c.from-residual.ensures.1 in
+pub returns-in_err-check_length : goal.returns-in_err-check_length
+returns-in_err-check_length c =
+    let p = err_from_is_err_and c.from_residual.result c.from_residual.ensures.1 in
     rw (p.1, p.2)
     record {
-      answer = c.in-err-check-length.ensures;
-      after = refused _ _ _ _ _ c.in-err-check-length.ensures;
+      answer = c.in_err-check_length.ensures;
+      after = refused _ _ _ _ _ c.in_err-check_length.ensures;
       image = λ e. grind arith;
     }
 
 pub loop-i-preserved : goal.loop-i-preserved
 loop-i-preserved c =
-    rw c.read-word.ensures
+    rw c.read_word.ensures
     (fill_by_more (λ k. number_from_digits 256 (octets_at c.args.octets.now k)) c.loop-i.words c.loop-i.i 0 (omega arith) c.loop-i.invariant)
 
 pub returns : goal.returns
 returns c =
     let octets = c.args.octets.now in
     let words = c.args.words.now in
-    let each : length octets ≡ 8 * length words = eight_each (length octets) (length words) c.in-ok-check-length.ensures in
+    let each : length octets ≡ 8 * length words = eight_each (length octets) (length words) c.in_ok-check_length.ensures in
     let read : c.loop-i.words ≡ words_of octets =
     fill_by_all (λ k. number_from_digits 256 (octets_at octets k)) c.loop-i.words (length octets / 8) 0 (omega arith) (λ k h. c.loop-i.invariant k (omega arith)) in
     record {
-      answer = c.in-ok-check-length.ensures;
-      after = read ∙ granted _ _ _ _ c.in-ok-check-length.ensures;
-      image = λ _. ap image read ∙ image_of_words octets (omega arith) (λ i. omega (arith, c.type-inv.octets i));
+      answer = c.in_ok-check_length.ensures;
+      after = read ∙ granted _ _ _ _ c.in_ok-check_length.ensures;
+      image = λ _. ap image read ∙ image_of_words octets (omega arith) (λ i. omega (arith, c.type_inv.octets i));
     }

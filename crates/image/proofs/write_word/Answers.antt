@@ -9,8 +9,8 @@ returns c =
     let start = 8 * c.args.at in
     record {
       placed =
-          put_mid-paste start (start + 8 - start) c.args.octets.now c.copy-from-slice.new.self (octets_of c.args.word) 8
-          (c.copy-from-slice.ensures.after ∙ c.to-be-bytes.ensures) (omega arith) refl
+          put_mid-paste start (start + 8 - start) c.args.octets.now c.copy_from_slice.new.self (octets_of c.args.word) 8
+          (c.copy_from_slice.ensures.after ∙ c.to_be_bytes.ensures) (omega arith) refl
           ∙ paste_all c.args.octets.now start (octets_of c.args.word) 8 refl;
       fits = omega arith;
     }

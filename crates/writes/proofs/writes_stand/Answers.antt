@@ -7,10 +7,10 @@ pub returns : goal.returns
 returns c = record {
   whole = whole_holds;
   short = short_holds;
-  power-alone = power_alone_holds;
+  power_alone = power_alone_holds;
   commit = commit_holds;
   kept = kept_holds;
   more = more_holds;
-  first-steps = first_steps_hold;
-  in-turn = in_turn_holds;
+  first_steps = first_steps_hold;
+  in_turn = in_turn_holds;
 }

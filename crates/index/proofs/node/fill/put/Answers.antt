@@ -10,6 +10,6 @@ returns c =
     let more = c.args.more.now in
     let n = length more in
     let all : n ≤ n = omega arith in
-    ap (take (at + n)) (put_mid-paste at (at + n - at) run c.copy-from-slice.new.self more n c.copy-from-slice.ensures.after (omega arith) refl)
+    ap (take (at + n)) (put_mid-paste at (at + n - at) run c.copy_from_slice.new.self more n c.copy_from_slice.ensures.after (omega arith) refl)
     ∙ take-paste run at more n (omega (arith, c.requires)) all
     ∙ ap (λ xs. take at run ++ xs) (take_all n more all)

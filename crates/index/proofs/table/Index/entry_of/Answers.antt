@@ -5,7 +5,7 @@ use Rattle.index.proofs.PlaceLaws.{within_parts}
 use Rattle.index.proofs.table.Index.entry_of.Goals as goal
 
 pub returns : goal.returns
-returns c = entry_is (grouped c.args.self.now) c.args.place c.group-node-node.result (entry 0 (0, 0)) (within_parts (grouped c.args.self.now) c.args.place c.requires) c.group-node-node.ensures
+returns c = entry_is (grouped c.args.self.now) c.args.place c.group_node-node.result (entry 0 (0, 0)) (within_parts (grouped c.args.self.now) c.args.place c.requires) c.group_node-node.ensures
 
-pub group-node-node-requires : goal.group-node-node-requires
-group-node-node-requires c = (within_parts (grouped c.args.self.now) c.args.place c.requires).0
+pub group_node-node-requires : goal.group_node-node-requires
+group_node-node-requires c = (within_parts (grouped c.args.self.now) c.args.place c.requires).0

@@ -10,10 +10,10 @@ returns-then-place-self c =
     let x = c.args.self.now in
     no_group (grouped x) c.args.place (omega (arith, length_grouped x, c.if-place-self.true))
 
-pub group-node-node-requires : goal.group-node-node-requires
-group-node-node-requires c = omega (arith, length_grouped c.args.self.now, c.if-place-self.false)
+pub group_node-node-requires : goal.group_node-node-requires
+group_node-node-requires c = omega (arith, length_grouped c.args.self.now, c.if-place-self.false)
 
 pub returns : goal.returns
 returns c =
     let x = c.args.self.now in
-    in_its_group (grouped x) c.args.place (omega (arith, length_grouped x, c.if-place-self.false)) (count_of c.group-node-node.result c.group-node-node.ensures)
+    in_its_group (grouped x) c.args.place (omega (arith, length_grouped x, c.if-place-self.false)) (count_of c.group_node-node.result c.group_node-node.ensures)

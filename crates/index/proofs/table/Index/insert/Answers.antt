@@ -8,13 +8,13 @@ use Rattle.index.proofs.ListLaws.{length_split}
 use Rattle.index.proofs.PlaceLaws.{within_parts}
 use Rattle.index.proofs.table.Index.insert.Goals as goal
 
-pub insert-in-requires : goal.insert-in-requires
-insert-in-requires c =
+pub insert_in-requires : goal.insert_in-requires
+insert_in-requires c =
     let x = c.args.self.now in
     let p = c.args.place in
     let w = within_parts (grouped x) p c.requires.0 in
-    let at = c.node-of-at.ensures in
-    let n = ap length (group_at x p.group c.node-of-at.result w.0 at.node) in
+    let at = c.node_of-at.ensures in
+    let n = ap length (group_at x p.group c.node_of-at.result w.0 at.node) in
     (omega (arith, at.within, x.size.2), (omega (arith, w.1, n), omega (arith, c.requires.1.0, n)))
 
 pub invariant-of-self : goal.invariant-of-self
@@ -23,8 +23,8 @@ invariant-of-self c =
     let x = c.args.self.now in
     let p = c.args.place in
     let w = within_parts (grouped x) p c.requires.0 in
-    let nodes = c.insert-in.new.nodes in
-    let is = set_group x p.group c.node-of-at.result (λ es. parted es p.slot c.args.left c.args.bound c.args.right) nodes w.0 c.node-of-at.ensures.node c.insert-in.ensures in
+    let nodes = c.insert_in.new.nodes in
+    let is = set_group x p.group c.node_of-at.result (λ es. parted es p.slot c.args.left c.args.bound c.args.right) nodes w.0 c.node_of-at.ensures.node c.insert_in.ensures in
     let keeps = last_parted (group_of (grouped x) p) p.slot c.args.left c.args.bound c.args.right w.1 in (
       (x.size.0, x.size.1, length_changed x _ _ nodes is),
       (
@@ -45,7 +45,7 @@ returns c =
     let x = c.args.self.now in
     let p = c.args.place in
     let w = within_parts (grouped x) p c.requires.0 in
-    let nodes = c.insert-in.new.nodes in
-    let is = set_group x p.group c.node-of-at.result (λ es. parted es p.slot c.args.left c.args.bound c.args.right) nodes w.0 c.node-of-at.ensures.node c.insert-in.ensures in
+    let nodes = c.insert_in.new.nodes in
+    let is = set_group x p.group c.node_of-at.result (λ es. parted es p.slot c.args.left c.args.bound c.args.right) nodes w.0 c.node_of-at.ensures.node c.insert_in.ensures in
     let keeps = last_parted (group_of (grouped x) p) p.slot c.args.left c.args.bound c.args.right w.1 in
     groups_changed x p.group _ nodes w.0 keeps is

@@ -10,20 +10,20 @@ use Rattle.index.proofs.PlaceLaws.{after_parts, within_of}
 use Rattle.index.proofs.KeepingLaws.{merge_keeps}
 use Rattle.index.proofs.table.Index.merge_leaves.Goals as goal
 
-pub replace-leaf-requires : goal.replace-leaf-requires
-replace-leaf-requires c =
+pub replace_leaf-requires : goal.replace_leaf-requires
+replace_leaf-requires c =
     let gs = grouped c.args.self.now in
     within_of gs c.args.next (after_parts gs c.args.place c.args.next c.requires).1
 
-pub group-node-node-requires : goal.group-node-node-requires
+pub group_node-node-requires : goal.group_node-node-requires
 unfolding grouped
-group-node-node-requires c =
+group_node-node-requires c =
     let x = c.args.self.now in
     let gs = grouped x in
     let p = c.args.place in
     let q = c.args.next in
     let w = after_parts gs p q c.requires in
-    (still_within gs (grouped c.replace-leaf.new.self) p q c.args.leaf w.0 w.1 w.2 c.replace-leaf.ensures.groups).0
+    (still_within gs (grouped c.replace_leaf.new.self) p q c.args.leaf w.0 w.1 w.2 c.replace_leaf.ensures.groups).0
 
 pub remove-requires : goal.remove-requires
 unfolding grouped
@@ -33,18 +33,18 @@ remove-requires c =
     let p = c.args.place in
     let q = c.args.next in
     let w = after_parts gs p q c.requires in
-    omega (arith, (still_within gs (grouped c.replace-leaf.new.self) p q c.args.leaf w.0 w.1 w.2 c.replace-leaf.ensures.groups).1, count_of c.group-node-node.result c.group-node-node.ensures)
+    omega (arith, (still_within gs (grouped c.replace_leaf.new.self) p q c.args.leaf w.0 w.1 w.2 c.replace_leaf.ensures.groups).1, count_of c.group_node-node.result c.group_node-node.ensures)
 
-pub list-with-chain-requires : goal.list-with-chain-requires
+pub list_with-chain-requires : goal.list_with-chain-requires
 unfolding grouped
-list-with-chain-requires c =
+list_with-chain-requires c =
     let x = c.args.self.now in
     let gs = grouped x in
     let p = c.args.place in
     let q = c.args.next in
     let w = after_parts gs p q c.requires in
-    let same = merged_list gs (grouped c.replace-leaf.new.self) p q c.args.leaf w.0 w.1 w.2 c.replace-leaf.ensures.groups c.group-node-node.ensures c.remove.ensures in
-    omega (arith, ap length same, merged_length gs (grouped c.replace-leaf.new.self) p q c.args.leaf w.0 w.1 w.2 c.replace-leaf.ensures.groups, x.counted.0, x.counted.1)
+    let same = merged_list gs (grouped c.replace_leaf.new.self) p q c.args.leaf w.0 w.1 w.2 c.replace_leaf.ensures.groups c.group_node-node.ensures c.remove.ensures in
+    omega (arith, ap length same, merged_length gs (grouped c.replace_leaf.new.self) p q c.args.leaf w.0 w.1 w.2 c.replace_leaf.ensures.groups, x.counted.0, x.counted.1)
 
 pub built-requires : goal.built-requires
 unfolding grouped
@@ -54,8 +54,8 @@ built-requires c =
     let p = c.args.place in
     let q = c.args.next in
     let w = after_parts gs p q c.requires in
-    let same = chain_slice c.list-with-chain.result ∙ c.list-with-chain.ensures ∙ merged_list gs (grouped c.replace-leaf.new.self) p q c.args.leaf w.0 w.1 w.2 c.replace-leaf.ensures.groups c.group-node-node.ensures c.remove.ensures in
-    (omega (arith, ap length same, merged_some gs (grouped c.replace-leaf.new.self) p q c.args.leaf w.0 w.1 w.2 c.replace-leaf.ensures.groups), omega (arith, ap length same, merged_length gs (grouped c.replace-leaf.new.self) p q c.args.leaf w.0 w.1 w.2 c.replace-leaf.ensures.groups, x.counted.0, x.counted.1))
+    let same = chain_slice c.list_with-chain.result ∙ c.list_with-chain.ensures ∙ merged_list gs (grouped c.replace_leaf.new.self) p q c.args.leaf w.0 w.1 w.2 c.replace_leaf.ensures.groups c.group_node-node.ensures c.remove.ensures in
+    (omega (arith, ap length same, merged_some gs (grouped c.replace_leaf.new.self) p q c.args.leaf w.0 w.1 w.2 c.replace_leaf.ensures.groups), omega (arith, ap length same, merged_length gs (grouped c.replace_leaf.new.self) p q c.args.leaf w.0 w.1 w.2 c.replace_leaf.ensures.groups, x.counted.0, x.counted.1))
 
 pub returns : goal.returns
 unfolding grouped
@@ -65,7 +65,7 @@ returns c =
     let p = c.args.place in
     let q = c.args.next in
     let w = after_parts gs p q c.requires in
-    let same = chain_slice c.list-with-chain.result ∙ c.list-with-chain.ensures ∙ merged_list gs (grouped c.replace-leaf.new.self) p q c.args.leaf w.0 w.1 w.2 c.replace-leaf.ensures.groups c.group-node-node.ensures c.remove.ensures in
+    let same = chain_slice c.list_with-chain.result ∙ c.list_with-chain.ensures ∙ merged_list gs (grouped c.replace_leaf.new.self) p q c.args.leaf w.0 w.1 w.2 c.replace_leaf.ensures.groups c.group_node-node.ensures c.remove.ensures in
     let all = c.built.ensures ∙ ap singles same in
     let list = ap concat all ∙ concat_singles (joined (concat gs) (position gs p) c.args.leaf) in
     record { groups = all; list = list; ascends = merge_keeps gs p q c.args.leaf w.1 w.2 list }

@@ -5,8 +5,8 @@ use Rattle.index.proofs.ListLaws.{count_of, offset_more, offset_all}
 use Rattle.index.proofs.PlaceLaws.{within_parts, told_at, none_at}
 use Rattle.index.proofs.table.Index.next_place.Goals as goal
 
-pub group-node-node-requires : goal.group-node-node-requires
-group-node-node-requires c = (within_parts (grouped c.args.self.now) c.args.place c.requires).0
+pub group_node-node-requires : goal.group_node-node-requires
+group_node-node-requires c = (within_parts (grouped c.args.self.now) c.args.place c.requires).0
 
 pub overflow-add-place : goal.overflow-add-place
 unfolding grouped
@@ -19,7 +19,7 @@ pub returns-then-place-node : goal.returns-then-place-node
 returns-then-place-node c =
     let x = c.args.self.now in
     let w = within_parts (grouped x) c.args.place c.requires in
-    told_at (grouped x) _ (w.0, omega (arith, c.if-place-node.true, count_of c.group-node-node.result c.group-node-node.ensures)) (omega arith)
+    told_at (grouped x) _ (w.0, omega (arith, c.if-place-node.true, count_of c.group_node-node.result c.group_node-node.ensures)) (omega arith)
 
 pub overflow-add-place-2 : goal.overflow-add-place-2
 overflow-add-place-2 c = let x = c.args.self.now in omega (arith, (within_parts (grouped x) c.args.place c.requires).0, length_grouped x, x.size.1)
@@ -31,11 +31,11 @@ returns-then-place-self c =
     let p = c.args.place in
     let w = within_parts (grouped x) p c.requires in
     let next : p.group + 1 < length (grouped x) = omega (arith, length_grouped x, c.if-place-self.true) in
-    told_at (grouped x) _ (next, x.full (p.group + 1) next) (omega (arith, offset_more (grouped x) p.group w.0, w.1, c.if-place-node.false, count_of c.group-node-node.result c.group-node-node.ensures))
+    told_at (grouped x) _ (next, x.full (p.group + 1) next) (omega (arith, offset_more (grouped x) p.group w.0, w.1, c.if-place-node.false, count_of c.group_node-node.result c.group_node-node.ensures))
 
 pub returns : goal.returns
 returns c =
     let x = c.args.self.now in
     let p = c.args.place in
     let w = within_parts (grouped x) p c.requires in
-    none_at (grouped x) _ (omega (arith, offset_more (grouped x) p.group w.0, offset_all (grouped x) (p.group + 1) (omega (arith, length_grouped x, c.if-place-self.false)), w.1, c.if-place-node.false, count_of c.group-node-node.result c.group-node-node.ensures))
+    none_at (grouped x) _ (omega (arith, offset_more (grouped x) p.group w.0, offset_all (grouped x) (p.group + 1) (omega (arith, length_grouped x, c.if-place-self.false)), w.1, c.if-place-node.false, count_of c.group_node-node.result c.group_node-node.ensures))

@@ -11,8 +11,8 @@ returns-then-place-gt0 c =
     let w = within_parts (grouped x) c.args.place c.requires in
     told_under (grouped x) _ (w.0, omega (arith, w.1, c.if-place-gt0.true)) (omega (arith, c.if-place-gt0.true))
 
-pub group-node-node-requires : goal.group-node-node-requires
-group-node-node-requires c = omega (arith, (within_parts (grouped c.args.self.now) c.args.place c.requires).0)
+pub group_node-node-requires : goal.group_node-node-requires
+group_node-node-requires c = omega (arith, (within_parts (grouped c.args.self.now) c.args.place c.requires).0)
 
 pub overflow-sub-result-then-place-gt0-2-2 : goal.overflow-sub-result-then-place-gt0-2-2
 unfolding grouped
@@ -20,7 +20,7 @@ overflow-sub-result-then-place-gt0-2-2 c =
     let x = c.args.self.now in
     let g = c.args.place.group in
     let back : g - 1 < length (grouped x) = omega (arith, (within_parts (grouped x) c.args.place c.requires).0) in
-    omega (arith, x.full (g - 1) back, count_of c.group-node-node.result c.group-node-node.ensures)
+    omega (arith, x.full (g - 1) back, count_of c.group_node-node.result c.group_node-node.ensures)
 
 pub returns-then-place-gt0-2 : goal.returns-then-place-gt0-2
 unfolding grouped
@@ -29,7 +29,7 @@ returns-then-place-gt0-2 c =
     let g = c.args.place.group in
     let w = within_parts (grouped x) c.args.place c.requires in
     let back : g - 1 < length (grouped x) = omega (arith, w.0) in
-    let n = count_of c.group-node-node.result c.group-node-node.ensures in
+    let n = count_of c.group_node-node.result c.group_node-node.ensures in
     let one : g - 1 + 1 ≡ g = omega (arith, c.if-place-gt0-2.true) in
     told_under (grouped x) _ (back, omega (arith, n, x.full (g - 1) back)) (omega (arith, n, x.full (g - 1) back, c.if-place-gt0.false, offset_more (grouped x) (g - 1) back, ap (offset (grouped x)) one))
 

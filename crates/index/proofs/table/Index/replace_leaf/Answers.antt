@@ -8,13 +8,13 @@ use Rattle.index.proofs.ListLaws.{concat_renamed}
 use Rattle.index.proofs.PlaceLaws.{within_parts}
 use Rattle.index.proofs.table.Index.replace_leaf.Goals as goal
 
-pub rename-in-requires : goal.rename-in-requires
-rename-in-requires c =
+pub rename_in-requires : goal.rename_in-requires
+rename_in-requires c =
     let x = c.args.self.now in
     let p = c.args.place in
     let w = within_parts (grouped x) p c.requires in
-    let at = c.node-of-at.ensures in
-    let n = ap length (group_at x p.group c.node-of-at.result w.0 at.node) in
+    let at = c.node_of-at.ensures in
+    let n = ap length (group_at x p.group c.node_of-at.result w.0 at.node) in
     (omega (arith, at.within, x.size.2), omega (arith, w.1, n))
 
 pub invariant-of-self : goal.invariant-of-self
@@ -23,8 +23,8 @@ invariant-of-self c =
     let x = c.args.self.now in
     let p = c.args.place in
     let w = within_parts (grouped x) p c.requires in
-    let nodes = c.rename-in.new.nodes in
-    let is = set_group x p.group c.node-of-at.result (λ es. renamed es p.slot c.args.leaf) nodes w.0 c.node-of-at.ensures.node c.rename-in.ensures in
+    let nodes = c.rename_in.new.nodes in
+    let is = set_group x p.group c.node_of-at.result (λ es. renamed es p.slot c.args.leaf) nodes w.0 c.node_of-at.ensures.node c.rename_in.ensures in
     let keeps = ap last (bounds_renamed (group_of (grouped x) p) p.slot c.args.leaf) in (
       (x.size.0, x.size.1, length_changed x _ _ nodes is),
       (
@@ -45,8 +45,8 @@ returns c =
     let x = c.args.self.now in
     let p = c.args.place in
     let w = within_parts (grouped x) p c.requires in
-    let nodes = c.rename-in.new.nodes in
-    let is = set_group x p.group c.node-of-at.result (λ es. renamed es p.slot c.args.leaf) nodes w.0 c.node-of-at.ensures.node c.rename-in.ensures in
+    let nodes = c.rename_in.new.nodes in
+    let is = set_group x p.group c.node_of-at.result (λ es. renamed es p.slot c.args.leaf) nodes w.0 c.node_of-at.ensures.node c.rename_in.ensures in
     let keeps = ap last (bounds_renamed (group_of (grouped x) p) p.slot c.args.leaf) in
     let all = groups_changed x p.group _ nodes w.0 keeps is in
     let list = ap concat all ∙ concat_renamed (grouped x) p.group p.slot c.args.leaf w.0 w.1 in

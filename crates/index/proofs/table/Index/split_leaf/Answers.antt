@@ -9,22 +9,22 @@ use Rattle.index.proofs.ListLaws.{list_split, length_split, chain_slice, split_l
 use Rattle.index.proofs.KeepingLaws.{split_keeps}
 use Rattle.index.proofs.table.Index.split_leaf.Goals as goal
 
-pub has-room-requires : goal.has-room-requires
-has-room-requires c = splits_within (grouped c.args.self.now) c.args.place c.requires
+pub has_room-requires : goal.has_room-requires
+has_room-requires c = splits_within (grouped c.args.self.now) c.args.place c.requires
 
 pub insert-requires : goal.insert-requires
 insert-requires c =
     let gs = grouped c.args.self.now in
-    (splits_within gs c.args.place c.requires, (ltb-true _ _ (sym c.has-room.ensures ∙ c.if-has-room.true), (splits_parts gs c.args.place c.requires).1))
+    (splits_within gs c.args.place c.requires, (ltb-true _ _ (sym c.has_room.ensures ∙ c.if-has_room.true), (splits_parts gs c.args.place c.requires).1))
 
-pub group-node-node-requires : goal.group-node-node-requires
-group-node-node-requires c = (splits_parts (grouped c.args.self.now) c.args.place c.requires).0.0
+pub group_node-node-requires : goal.group_node-node-requires
+group_node-node-requires c = (splits_parts (grouped c.args.self.now) c.args.place c.requires).0.0
 
-pub returns-then-has-room : goal.returns-then-has-room
-returns-then-has-room c =
+pub returns-then-has_room : goal.returns-then-has_room
+returns-then-has_room c =
     let gs = grouped c.args.self.now in
     let w = splits_parts gs c.args.place c.requires in
-    let all = c.insert.ensures ∙ sym (cond-true _ _ _ (sym c.has-room.ensures ∙ c.if-has-room.true)) in
+    let all = c.insert.ensures ∙ sym (cond-true _ _ _ (sym c.has_room.ensures ∙ c.if-has_room.true)) in
     let list = ap concat all ∙ list_split gs c.args.place c.args.left c.args.bound c.args.right w.0 in
     record { groups = all; list = list; ascends = split_keeps gs c.args.place c.args.left c.args.bound c.args.right w.0 list }
 
@@ -33,15 +33,15 @@ unfolding grouped
 insert-requires-2 c =
     let x = c.args.self.now in
     let w = splits_parts (grouped x) c.args.place c.requires in
-    let n = sym (count_is c.group-node-node.result) ∙ ap length c.group-node-node.ensures in
+    let n = sym (count_is c.group_node-node.result) ∙ ap length c.group_node-node.ensures in
     (omega (arith, n, w.0.1), omega (arith, n, x.small c.args.place.group w.0.0))
 
-pub list-with-chain-requires : goal.list-with-chain-requires
-list-with-chain-requires c =
+pub list_with-chain-requires : goal.list_with-chain-requires
+list_with-chain-requires c =
     let p = c.args.place in
     let gs = grouped c.args.self.now in
     let w = splits_parts gs c.args.place c.requires in
-    let same = split_list gs p c.args.left c.args.bound c.args.right c.group-node-node.ensures c.insert-2.ensures.list in
+    let same = split_list gs p c.args.left c.args.bound c.args.right c.group_node-node.ensures c.insert-2.ensures.list in
     omega (arith, ap length same, length_split gs p.group p.slot c.args.left c.args.bound c.args.right w.0.0 w.0.1, w.1)
 
 pub built-requires : goal.built-requires
@@ -49,7 +49,7 @@ built-requires c =
     let p = c.args.place in
     let gs = grouped c.args.self.now in
     let w = splits_parts gs c.args.place c.requires in
-    let same = chain_slice c.list-with-chain.result ∙ c.list-with-chain.ensures ∙ split_list gs p c.args.left c.args.bound c.args.right c.group-node-node.ensures c.insert-2.ensures.list in
+    let same = chain_slice c.list_with-chain.result ∙ c.list_with-chain.ensures ∙ split_list gs p c.args.left c.args.bound c.args.right c.group_node-node.ensures c.insert-2.ensures.list in
     let n = length_split gs p.group p.slot c.args.left c.args.bound c.args.right w.0.0 w.0.1 in
     (omega (arith, ap length same, n), omega (arith, ap length same, n, w.1))
 
@@ -58,7 +58,7 @@ returns c =
     let p = c.args.place in
     let gs = grouped c.args.self.now in
     let w = splits_parts gs c.args.place c.requires in
-    let same = chain_slice c.list-with-chain.result ∙ c.list-with-chain.ensures ∙ split_list gs p c.args.left c.args.bound c.args.right c.group-node-node.ensures c.insert-2.ensures.list in
-    let all = c.built.ensures ∙ ap singles same ∙ sym (cond-false _ _ _ (sym c.has-room.ensures ∙ c.if-has-room.false)) in
+    let same = chain_slice c.list_with-chain.result ∙ c.list_with-chain.ensures ∙ split_list gs p c.args.left c.args.bound c.args.right c.group_node-node.ensures c.insert-2.ensures.list in
+    let all = c.built.ensures ∙ ap singles same ∙ sym (cond-false _ _ _ (sym c.has_room.ensures ∙ c.if-has_room.false)) in
     let list = ap concat all ∙ list_split gs p c.args.left c.args.bound c.args.right w.0 in
     record { groups = all; list = list; ascends = split_keeps gs p c.args.left c.args.bound c.args.right w.0 list }

@@ -4,11 +4,11 @@ use Rattle.layers.specs.Layers.{margin}
 use Rattle.layers.proofs.Views.{margin_sound, done_below, kept_below, flush_none, flush_some}
 use Rattle.layers.proofs.margin.MarginMemory.flush.Goals as goal
 
-pub returns-in-default : goal.returns-in-default
-returns-in-default g c =
+pub returns-in_default : goal.returns-in_default
+returns-in_default g c =
     let m = g.M.Memory.meaning c.args.self.now.below in
-    let done = flush_none (margin c.args.self.now.hidden) m c.args.line c.in-default.ensures in
-    record { answer = done.0; after = done.1; kept = refl; below = kept_below (after_flush m) m c.in-default.ensures }
+    let done = flush_none (margin c.args.self.now.hidden) m c.args.line c.in_default.ensures in
+    record { answer = done.0; after = done.1; kept = refl; below = kept_below (after_flush m) m c.in_default.ensures }
 
 pub returns : goal.returns
 returns g c =

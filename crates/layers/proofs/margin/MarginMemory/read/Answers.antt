@@ -3,9 +3,9 @@ use Rattle.layers.specs.Layers.{margin}
 use Rattle.layers.proofs.Views.{margin_sound, read_none, read_some}
 use Rattle.layers.proofs.margin.MarginMemory.read.Goals as goal
 
-pub returns-in-default : goal.returns-in-default
-returns-in-default g c = record {
-  answer = read_none (margin c.args.self.now.hidden) (g.M.Memory.meaning c.args.self.now.below) c.args.at c.in-default.ensures;
+pub returns-in_default : goal.returns-in_default
+returns-in_default g c = record {
+  answer = read_none (margin c.args.self.now.hidden) (g.M.Memory.meaning c.args.self.now.below) c.args.at c.in_default.ensures;
   after = refl;
   kept = refl;
   below = refl;

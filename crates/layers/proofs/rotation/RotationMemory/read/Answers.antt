@@ -3,9 +3,9 @@ use Rattle.layers.specs.Layers.{rotation}
 use Rattle.layers.proofs.Views.{rotation_sound, read_none, read_some}
 use Rattle.layers.proofs.rotation.RotationMemory.read.Goals as goal
 
-pub returns-in-default : goal.returns-in-default
-returns-in-default g c = record {
-  answer = read_none (rotation c.args.self.now.by) (g.M.Memory.meaning c.args.self.now.below) c.args.at c.in-default.ensures;
+pub returns-in_default : goal.returns-in_default
+returns-in_default g c = record {
+  answer = read_none (rotation c.args.self.now.by) (g.M.Memory.meaning c.args.self.now.below) c.args.at c.in_default.ensures;
   after = refl;
   kept = refl;
   below = refl;

@@ -6,9 +6,9 @@ use Rattle.leaves.proofs.leaf.sorted.deleted.Goals as goal
 pub loop-i-preserved : goal.loop-i-preserved
 loop-i-preserved c =
     let run = c.args.run.now in
-    let push = c.push-if.ensures in (
-      delete_turn (listed c.loop-i.out) (listed c.push-if.new.run) run.pairs run.len c.loop-i.i _ c.loop-i-test.true (omega arith) c.args.key c.same-words-same.ensures c.loop-i.invariant.0 push.list,
-      omega (arith, push.len, at_most_one (not c.same-words-same.result)),
+    let push = c.push_if.ensures in (
+      delete_turn (listed c.loop-i.out) (listed c.push_if.new.run) run.pairs run.len c.loop-i.i _ c.loop-i-test.true (omega arith) c.args.key c.same_words-same.ensures c.loop-i.invariant.0 push.list,
+      omega (arith, push.len, at_most_one (not c.same_words-same.result)),
       push.room,
     )
 

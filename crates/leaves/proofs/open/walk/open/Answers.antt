@@ -5,7 +5,7 @@ use Rattle.leaves.proofs.open.walk.open.Goals as goal
 
 pub returns : goal.returns
 returns g c =
-    let read = c.read-all.ensures in
+    let read = c.read_all.ensures in
     record {
       same = read.same;
       value = read.value;

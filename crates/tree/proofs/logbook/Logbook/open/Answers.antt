@@ -18,8 +18,8 @@ returns-in-Ok g c =
     let bs = bounds-in c.in-Ok.chain in
     record {
       same = found.same;
-      answer = told_open o laws m ks bs found.value found.bounds book.state c.in-default.not-Dark;
-      state = shaped_open o laws m ks bs found.value found.bounds book.state c.opened-self.result c.in-default.not-Dark c.opened-self.ensures;
+      answer = told_open o laws m ks bs found.value found.bounds book.state c.in_default.not-Dark;
+      state = shaped_open o laws m ks bs found.value found.bounds book.state c.opened-self.result c.in_default.not-Dark c.opened-self.ensures;
       sound =
           subst (λ (w : Words). Sound o w.live c.opened-self.result) (sym found.same)
           (sound_open o laws m ks bs found.value found.bounds c.opened-self.result c.opened-self.ensures);
