@@ -17,9 +17,9 @@ insert_in-requires c =
     let n = ap length (group_at x p.group c.node_of-at.result w.0 at.node) in
     (omega (arith, at.within, x.size.2), (omega (arith, w.1, n), omega (arith, c.requires.1.0, n)))
 
-pub invariant-of-self : goal.invariant-of-self
+pub invariant_of-self : goal.invariant_of-self
 unfolding grouped
-invariant-of-self c =
+invariant_of-self c =
     let x = c.args.self.now in
     let p = c.args.place in
     let w = within_parts (grouped x) p c.requires.0 in

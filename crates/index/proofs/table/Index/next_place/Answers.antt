@@ -8,9 +8,9 @@ use Rattle.index.proofs.table.Index.next_place.Goals as goal
 pub group_node-node-requires : goal.group_node-node-requires
 group_node-node-requires c = (within_parts (grouped c.args.self.now) c.args.place c.requires).0
 
-pub overflow-add-place : goal.overflow-add-place
+pub overflow_add-place : goal.overflow_add-place
 unfolding grouped
-overflow-add-place c =
+overflow_add-place c =
     let x = c.args.self.now in
     let w = within_parts (grouped x) c.args.place c.requires in
     omega (arith, w.1, x.small c.args.place.group w.0)
@@ -21,8 +21,8 @@ returns-then-place-node c =
     let w = within_parts (grouped x) c.args.place c.requires in
     told_at (grouped x) _ (w.0, omega (arith, c.if-place-node.true, count_of c.group_node-node.result c.group_node-node.ensures)) (omega arith)
 
-pub overflow-add-place-2 : goal.overflow-add-place-2
-overflow-add-place-2 c = let x = c.args.self.now in omega (arith, (within_parts (grouped x) c.args.place c.requires).0, length_grouped x, x.size.1)
+pub overflow_add-place-2 : goal.overflow_add-place-2
+overflow_add-place-2 c = let x = c.args.self.now in omega (arith, (within_parts (grouped x) c.args.place c.requires).0, length_grouped x, x.size.1)
 
 pub returns-then-place-self : goal.returns-then-place-self
 unfolding grouped

@@ -14,9 +14,9 @@ returns-then-place-gt0 c =
 pub group_node-node-requires : goal.group_node-node-requires
 group_node-node-requires c = omega (arith, (within_parts (grouped c.args.self.now) c.args.place c.requires).0)
 
-pub overflow-sub-result-then-place-gt0-2-2 : goal.overflow-sub-result-then-place-gt0-2-2
+pub overflow_sub-result-then-place-gt0-2-2 : goal.overflow_sub-result-then-place-gt0-2-2
 unfolding grouped
-overflow-sub-result-then-place-gt0-2-2 c =
+overflow_sub-result-then-place-gt0-2-2 c =
     let x = c.args.self.now in
     let g = c.args.place.group in
     let back : g - 1 < length (grouped x) = omega (arith, (within_parts (grouped x) c.args.place c.requires).0) in

@@ -52,8 +52,8 @@ entry_at-row-requires g c =
     let x = c.args.self.now in
     (omega arith, root_some (grouped x) (omega (arith, length_grouped x, c.if-self-le9.false)))
 
-pub overflow-add-row : goal.overflow-add-row
-overflow-add-row g c =
+pub overflow_add-row : goal.overflow_add-row
+overflow_add-row g c =
     let x = c.args.self.now in
     omega (arith, q_small (grouped x) (omega (arith, length_grouped x, c.if-self-le9.false)) c.entry_at-row.result c.entry_at-row.ensures.within)
 
@@ -64,13 +64,13 @@ entry_at-column-requires g c =
     let q = c.entry_at-row.result in
     (omega (arith, q_small (grouped x) many q c.entry_at-row.ensures.within), row_has (grouped x) many q c.entry_at-row.ensures.within)
 
-pub overflow-mul-row : goal.overflow-mul-row
-overflow-mul-row g c =
+pub overflow_mul-row : goal.overflow_mul-row
+overflow_mul-row g c =
     let x = c.args.self.now in
     omega (arith, q_small (grouped x) (omega (arith, length_grouped x, c.if-self-le9.false)) c.entry_at-row.result c.entry_at-row.ensures.within)
 
-pub overflow-add-row-2 : goal.overflow-add-row-2
-overflow-add-row-2 g c =
+pub overflow_add-row-2 : goal.overflow_add-row-2
+overflow_add-row-2 g c =
     let x = c.args.self.now in
     omega (arith, x.size.1, length_grouped x, many_within (grouped x) (omega (arith, length_grouped x, c.if-self-le9.false)) c.entry_at-row.result c.entry_at-row.ensures.within c.entry_at-column.result c.entry_at-column.ensures.within)
 

@@ -9,8 +9,8 @@ loop-i-preserved c =
     let l = c.loop-i in
     (simp length-set l.invariant.0, fill_turn (table (singles c.args.entries.now)) l.nodes l.i c.made.result (omega (arith, l.invariant.0)) c.made.ensures l.invariant.1)
 
-pub invariant-of-result : goal.invariant-of-result
-invariant-of-result c =
+pub invariant_of-result : goal.invariant_of-result
+invariant_of-result c =
     let es = c.args.entries.now in
     let l = c.loop-i in
     ((c.requires.0, omega (arith, c.requires.1), l.invariant.0), ((build_counted es l.nodes (omega (arith, c.requires.1)) l.invariant.0 (λ k h. l.invariant.1 k (omega arith)), c.requires.1), (build_full es l.nodes (omega (arith, c.requires.1)) l.invariant.0 (λ k h. l.invariant.1 k (omega arith)), (build_small es l.nodes (omega (arith, c.requires.1)) l.invariant.0 (λ k h. l.invariant.1 k (omega arith)), (build_sound es l.nodes (omega (arith, c.requires.1)) l.invariant.0 (λ k h. l.invariant.1 k (omega arith)), tt)))))
