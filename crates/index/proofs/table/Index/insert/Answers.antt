@@ -25,19 +25,14 @@ invariant_of-self c =
     let w = within_parts (grouped x) p c.requires.0 in
     let nodes = c.insert_in.new.nodes in
     let is = set_group x p.group c.node_of-at.result (λ es. parted es p.slot c.args.left c.args.bound c.args.right) nodes w.0 c.node_of-at.ensures.node c.insert_in.ensures in
-    let keeps = last_parted (group_of (grouped x) p) p.slot c.args.left c.args.bound c.args.right w.1 in (
-      (x.size.0, x.size.1, length_changed x _ _ nodes is),
-      (
-        (omega (arith, x.counted.0, ap (λ gs. length (concat gs)) (groups_changed x p.group _ nodes w.0 keeps is), length_split (grouped x) p.group p.slot c.args.left c.args.bound c.args.right w.0 w.1), omega (arith, x.counted.0, c.requires.1.1)),
-        (
-          each_changed x p.group _ nodes w.0 keeps is (λ es. 0 < length es) (omega (arith, length_parted (group_of (grouped x) p) p.slot c.args.left c.args.bound c.args.right w.1)) x.full,
-          (
-            each_changed x p.group _ nodes w.0 keeps is (λ es. length es ≤ 5) (omega (arith, length_parted (group_of (grouped x) p) p.slot c.args.left c.args.bound c.args.right w.1, c.requires.1.0)) x.small,
-            (sound_changed x p.group _ nodes w.0 keeps is, tt),
-          ),
-        ),
-      ),
-    )
+    let keeps = last_parted (group_of (grouped x) p) p.slot c.args.left c.args.bound c.args.right w.1 in
+    record {
+      size = (x.size.0, x.size.1, length_changed x _ _ nodes is);
+      counted = (omega (arith, x.counted.0, ap (λ gs. length (concat gs)) (groups_changed x p.group _ nodes w.0 keeps is), length_split (grouped x) p.group p.slot c.args.left c.args.bound c.args.right w.0 w.1), omega (arith, x.counted.0, c.requires.1.1));
+      full = each_changed x p.group _ nodes w.0 keeps is (λ es. 0 < length es) (omega (arith, length_parted (group_of (grouped x) p) p.slot c.args.left c.args.bound c.args.right w.1)) x.full;
+      small = each_changed x p.group _ nodes w.0 keeps is (λ es. length es ≤ 5) (omega (arith, length_parted (group_of (grouped x) p) p.slot c.args.left c.args.bound c.args.right w.1, c.requires.1.0)) x.small;
+      sound = sound_changed x p.group _ nodes w.0 keeps is;
+    }
 
 pub returns : goal.returns
 unfolding grouped

@@ -25,19 +25,14 @@ invariant_of-self c =
     let w = within_parts (grouped x) p c.requires in
     let nodes = c.rename_in.new.nodes in
     let is = set_group x p.group c.node_of-at.result (λ es. renamed es p.slot c.args.leaf) nodes w.0 c.node_of-at.ensures.node c.rename_in.ensures in
-    let keeps = ap last (bounds_renamed (group_of (grouped x) p) p.slot c.args.leaf) in (
-      (x.size.0, x.size.1, length_changed x _ _ nodes is),
-      (
-        (x.counted.0 ∙ sym (ap (λ gs. length (concat gs)) (groups_changed x p.group _ nodes w.0 keeps is) ∙ ap length (concat_renamed (grouped x) p.group p.slot c.args.leaf w.0 w.1) ∙ length_renamed (concat (grouped x)) _ c.args.leaf), x.counted.1),
-        (
-          each_changed x p.group _ nodes w.0 keeps is (λ es. 0 < length es) (omega (arith, w.1, length_renamed (group_of (grouped x) p) p.slot c.args.leaf)) x.full,
-          (
-            each_changed x p.group _ nodes w.0 keeps is (λ es. length es ≤ 5) (omega (arith, length_renamed (group_of (grouped x) p) p.slot c.args.leaf, x.small p.group w.0)) x.small,
-            (sound_changed x p.group _ nodes w.0 keeps is, tt),
-          ),
-        ),
-      ),
-    )
+    let keeps = ap last (bounds_renamed (group_of (grouped x) p) p.slot c.args.leaf) in
+    record {
+      size = (x.size.0, x.size.1, length_changed x _ _ nodes is);
+      counted = (x.counted.0 ∙ sym (ap (λ gs. length (concat gs)) (groups_changed x p.group _ nodes w.0 keeps is) ∙ ap length (concat_renamed (grouped x) p.group p.slot c.args.leaf w.0 w.1) ∙ length_renamed (concat (grouped x)) _ c.args.leaf), x.counted.1);
+      full = each_changed x p.group _ nodes w.0 keeps is (λ es. 0 < length es) (omega (arith, w.1, length_renamed (group_of (grouped x) p) p.slot c.args.leaf)) x.full;
+      small = each_changed x p.group _ nodes w.0 keeps is (λ es. length es ≤ 5) (omega (arith, length_renamed (group_of (grouped x) p) p.slot c.args.leaf, x.small p.group w.0)) x.small;
+      sound = sound_changed x p.group _ nodes w.0 keeps is;
+    }
 
 pub returns : goal.returns
 unfolding grouped

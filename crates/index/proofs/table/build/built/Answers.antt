@@ -13,7 +13,13 @@ pub invariant_of-result : goal.invariant_of-result
 invariant_of-result c =
     let es = c.args.entries.now in
     let l = c.loop-i in
-    ((c.requires.0, omega (arith, c.requires.1), l.invariant.0), ((build_counted es l.nodes (omega (arith, c.requires.1)) l.invariant.0 (λ k h. l.invariant.1 k (omega arith)), c.requires.1), (build_full es l.nodes (omega (arith, c.requires.1)) l.invariant.0 (λ k h. l.invariant.1 k (omega arith)), (build_small es l.nodes (omega (arith, c.requires.1)) l.invariant.0 (λ k h. l.invariant.1 k (omega arith)), (build_sound es l.nodes (omega (arith, c.requires.1)) l.invariant.0 (λ k h. l.invariant.1 k (omega arith)), tt)))))
+    record {
+      size = (c.requires.0, omega (arith, c.requires.1), l.invariant.0);
+      counted = (build_counted es l.nodes (omega (arith, c.requires.1)) l.invariant.0 (λ k h. l.invariant.1 k (omega arith)), c.requires.1);
+      full = build_full es l.nodes (omega (arith, c.requires.1)) l.invariant.0 (λ k h. l.invariant.1 k (omega arith));
+      small = build_small es l.nodes (omega (arith, c.requires.1)) l.invariant.0 (λ k h. l.invariant.1 k (omega arith));
+      sound = build_sound es l.nodes (omega (arith, c.requires.1)) l.invariant.0 (λ k h. l.invariant.1 k (omega arith));
+    }
 
 pub returns : goal.returns
 unfolding grouped
