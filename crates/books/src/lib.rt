@@ -1,5 +1,6 @@
 //! The book in a memory's words: what opening asks of them, which words the book rests on, and the bounds between its leaves.
 #![tactic(auto)]
+
 ghost use Rattle.books.specs.Bounds.{Locates, OpeningBounds};
 ghost use Rattle.books.specs.Footprint.{Depends};
 ghost use Rattle.books.specs.Format.{FormatCut, Formats};

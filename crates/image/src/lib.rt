@@ -1,5 +1,6 @@
 //! The image of a memory: its live words as octets, the most significant octet of each word first.
 #![tactic(auto)]
+
 ghost use Rattle.std.specs.Prelude.{◌≡◌, ◌+◌, ◌*◌, ◌/◌, ◌^◌, ◌<◌, ◌++◌, length, take, drop, Ok};
 ghost use Rattle.image.specs.Image.{LongAs, OneImage, ReadBack, WrittenBack, after_read, after_write, image, image_answer, octets_at, octets_of};
 ghost use Rattle.memory.specs.Meaning.{size_of};

@@ -1,5 +1,6 @@
 //! Kinds of key: a code, an order and a form as two words.
 #![tactic(auto)]
+
 ghost use Rattle.std.specs.Prelude.{◌≡◌, true, false, if◌then◌else◌};
 ghost use Rattle.keys.specs.InWords.{in_words, WordOrdered};
 ghost use Rattle.keys.specs.Kind.{Kind, Ordered, Formed, unpacked};

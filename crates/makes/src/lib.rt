@@ -1,4 +1,5 @@
 //! Makes of memory: words lent by the caller, shown by the meaning of a memory.
 #![tactic(auto)]
+
 pub mod buffered;
 pub mod through;

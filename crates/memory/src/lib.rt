@@ -1,5 +1,6 @@
 //! The memory under the logbook: what it means, and the calls that show it. Makes and layers implement this; all above sees nothing else.
 #![tactic(auto)]
+
 ghost use Rattle.std.specs.Prelude.{◌≡◌, ℕ, Ok};
 ghost use Rattle.memory.specs.Meaning.{CutOf, Freely, Lawful, Settled, Words, after_flush, after_settle, after_store, flush_answer, read_answer, settle_answer, size_of, store_answer};
 

@@ -1,5 +1,6 @@
 //! Why a call is refused: one list of plain cases for the whole logbook, each with the number by which it is told.
 #![tactic(auto)]
+
 ghost use Rattle.std.specs.Prelude.{◌≡◌};
 ghost use Rattle.refusal.specs.Numbers.{number_of};
 

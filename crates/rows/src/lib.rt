@@ -1,5 +1,6 @@
 //! Worked rows of the rules: proved as one theorem, and tried as short tests of the crates below.
 #![tactic(auto)]
+
 ghost use Rattle.rows.specs.Rows.{Rows};
 
 #[cfg(test)]

@@ -1,5 +1,6 @@
 //! The program: shows one real task from beginning to end, as tables that a person can read.
 #![tactic(auto)]
+
 use std::io;
 
 mod correction;

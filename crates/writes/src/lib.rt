@@ -1,5 +1,6 @@
 //! Line writes: stores into one line of a memory, and then the flush of that line. What they come to on any memory, and what a cut can leave of them.
 #![tactic(auto)]
+
 ghost use Rattle.std.specs.Prelude.{◌≡◌, ◌+◌, ◌^◌, ◌<◌, ◌≤◌, [], ◌∷◌, length};
 ghost use Rattle.writes.specs.Writes.{lines_for, onward, outcome, perform, row, rows};
 ghost use Rattle.writes.specs.Laws.{Commit, FirstSteps, InTurn, Kept, More, Observed, PowerAlone, Short, Whole};
