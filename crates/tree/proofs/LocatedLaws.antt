@@ -49,7 +49,7 @@ one_fine : (o : WordKind) (m : List ℕ) (alone : Bool) (bound : Option (ℕ × 
 one_fine o m alone bound [] k post h = h.0.few
 one_fine o m alone bound (x ∷ pre) k post h = one_fine o m alone (greatest o m x (count_of m x)) pre k post h.1
 
-counts : (m : List ℕ) (k : ℕ) → 1 ≤ k → k ≤ 64 → 8 + 72 * k ≤ length m → count_of m k ≤ 16 → count_answer m k ≡ Ok (count_of m k)
+pub counts : (m : List ℕ) (k : ℕ) → 1 ≤ k → k ≤ 64 → 8 + 72 * k ≤ length m → count_of m k ≤ 16 → count_answer m k ≡ Ok (count_of m k)
 counts m k low high long few = grind (arith, nat_tests)
 
 -- Where a key is located in a sound logbook.

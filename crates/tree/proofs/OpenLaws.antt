@@ -1,22 +1,25 @@
 -- A logbook that has opened is sound.
-use Rattle.std.proofs.Common.{◌≡◌, ℕ, zero, suc, ◌+◌, ◌<◌, ◌≤◌, Bool, true, false, cond, ◌&&◌, leb, ◌⊎◌, List, [], ◌∷◌, ◌++◌, map, length, get_or, take, set, Some, None, Ok, Err, Option, sym, refl, ap, ◌∙◌, subst, inl, inr, ⊎_elim, add-one, arith}
+use Rattle.std.proofs.Common.{◌≡◌, ℕ, zero, suc, ◌+◌, ◌*◌, ◌<◌, ◌≤◌, Bool, true, false, cond, ◌&&◌, leb, ◌⊎◌, List, [], ◌∷◌, ◌++◌, map, length, get_or, get_or-take, length-take, take, set, Some, None, Ok, Err, Option, Result, sym, refl, ap, ◌∙◌, subst, inl, inr, ⊎_elim, add-one, arith}
 use Rattle.std.proofs.lemmas.Bool.Decides.{nat_tests}
 use Rattle.std.proofs.lemmas.Bool.{cases_Bool, cond-true, cond-false}
-use Rattle.std.proofs.lemmas.List.{take_more_set}
+use Rattle.std.proofs.lemmas.List.{get_or-map, length-map, take-map, take_more_set}
 use Rattle.keys.specs.InWords.{WordKind, WordOrdered}
-use Rattle.leaves.specs.Layout.{count_of, element}
-use Rattle.leaves.specs.Opening.{greatest, later, open_answer, tops, value}
-use Rattle.books.specs.Opens.{AllFine, lone}
-use Rattle.books.specs.Bounds.{Bounded, Keys, bounds_of}
+use Rattle.refusal.specs.declared.Refusal.{Refusal}
+use Rattle.leaves.specs.Asking.{granted}
+use Rattle.leaves.specs.Layout.{count_of, element, next_of, word}
+use Rattle.leaves.specs.Opening.{greatest, later, open_answer}
+use Rattle.books.specs.Opens.{AllFine, Leads, UpTo, lone}
+use Rattle.books.specs.Bounds.{Bounded, Keys, bounds_of, value}
 use Rattle.books.proofs.BoundLaws.{Busy, all_busy, opening_bounds_hold}
 use Rattle.books.proofs.OpensLaws.{opens_from}
 use Rattle.index.specs.declared.node.Entry.{Entry}
 use Rattle.index.specs.Nodes.{bounds, entry, numbers}
 use Rattle.index.specs.Search.{Above, Ascending, concat, front}
-use Rattle.index.specs.Meaning.{grouped, listed}
+use Rattle.index.specs.Meaning.{built, grouped, listed}
 use Rattle.index.specs.Shape.{singles}
-use Rattle.tree.specs.Shape.{built_shape, found_shape, groups, open_shape, open_told, paired, shape_of}
+use Rattle.tree.specs.Shape.{blank, built_shape, found_shape, groups, open_shape, open_told, paired, shape_of, tops, top_at, top_told}
 use Rattle.tree.specs.Sound.{Fits, Sound}
+use Rattle.tree.proofs.LocatedLaws.{counts}
 use Rattle.tree.specs.declared.logbook.State.{State}
 use Rattle.tree.specs.declared.logbook.State.TheVariants.{Blank, Open, Dark}
 
@@ -101,6 +104,43 @@ entries_more ks bs es i h g l was =
     take_more_set es i (entry (get_or ks i 0) (get_or bs i (0, 0))) l
     ∙ (ap (λ xs. xs ++ (entry (get_or ks i 0) (get_or bs i (0, 0)) ∷ [])) was ∙ rw add-one (sym (paired_more ks bs i h g)))
 
+-- The greatest key of a leaf of an opened chain, asked from outside.
+asked_top : (o : WordKind) (m : List ℕ) (link n : ℕ) (alone : Bool) (bound : Option (ℕ × ℕ)) (ks : List ℕ) (i : ℕ) → i < length ks → Leads m link ks → UpTo n ks → AllFine o m alone bound ks → n ≤ 64 → 8 + 72 * n ≤ length m
+    → top_at o m (get_or ks i 0) ≡ value (greatest o m (get_or ks i 0) (count_of m (get_or ks i 0)))
+asked_top o m link n alone bound [] i lt leads within fine most fits = absurd (omega arith)
+asked_top o m link n alone bound (k ∷ ks) zero lt leads within fine most fits =
+    ap (λ (r : Result ℕ Refusal). top_told (granted r (greatest o m k))) (counts m k leads.1 (omega (arith, within.0)) (omega (arith, within.0)) fine.0.few)
+asked_top o m link n alone bound (k ∷ ks) (suc i) lt leads within fine most fits =
+    asked_top o m (next_of m k) n alone (greatest o m k (count_of m k)) ks i (omega arith) leads.2 within.1 fine.1 most fits
+
+-- The leaves of an opened chain stand in the first places of its 64.
+module _ (o : WordKind) (m leaves : List ℕ) (len : ℕ) (opened : open_answer o m ≡ Ok (take len leaves)) (room : length leaves ≡ 64) where
+  pub in_chain : len < 64
+  in_chain =
+      let opens = opens_from o m (take len leaves) opened in
+      omega (arith, opens.spare, opens.most, length-take len leaves)
+
+  pub top_is : (i : ℕ) → i < len → top_at o m (get_or leaves i 0) ≡ get_or (tops o m leaves) i (0, 0)
+  top_is i lt =
+      let opens = opens_from o m (take len leaves) opened in
+      let inside = in_chain in
+      let at : get_or (take len leaves) i 0 ≡ get_or leaves i 0 = get_or-take len leaves i 0 lt in
+      let top = asked_top o m (word m 2) (word m 3) (lone (take len leaves)) None (take len leaves) i (omega (arith, length-take len leaves)) opens.leads opens.within opens.fine opens.most opens.fits in
+      (rw at at top) ∙ sym (get_or-map (λ k. value (greatest o m k (count_of m k))) leaves i 0 (0, 0) (omega arith))
+
+  -- The index that is built of them.
+  pub built_is : (es : List Entry) (x : List (List Entry)) → es ≡ paired (take len leaves) (take len (tops o m leaves)) → Some x ≡ built es → groups x ≡ built_shape (take len leaves) (tops o m (take len leaves))
+  built_is es x same some =
+      let ks = take len leaves in
+      let opens = opens_from o m ks opened in
+      let bs : take len (tops o m leaves) ≡ tops o m ks = take-map (λ k. value (greatest o m k (count_of m k))) len leaves in
+      let is : es ≡ paired ks (tops o m ks) = same ∙ ap (paired ks) bs in
+      let long : length es ≡ length ks = ap length is ∙ length_paired ks (tops o m ks) (length_tops o m ks) in
+      let test : (leb 1 (length es) && leb (length es) 64) ≡ true = (let a = opens.some in let b = opens.spare in let c = opens.most in grind (arith, nat_tests)) in
+      let here : (leb 1 (length ks) && leb (length ks) 64) ≡ true = rw long at test in
+      let single : x ≡ singles es = (let e = some ∙ cond-true (leb 1 (length es) && leb (length es) 64) (Some (singles es)) None test in cc) in
+      ap groups (single ∙ ap singles is) ∙ sym (cond-true (leb 1 (length ks) && leb (length ks) 64) (groups (singles (paired ks (tops o m ks)))) blank here)
+
 concat_singles : (es : List Entry) → concat (singles es) ≡ es
 concat_singles [] = refl
 concat_singles (e ∷ es) = ap (λ xs. e ∷ xs) (concat_singles es)
@@ -113,8 +153,8 @@ module _ (o : WordKind) (ordered : WordOrdered o) (m ks : List ℕ) (bs : List (
   few : (0 < length ks) × (length ks ≤ 64)
   few = let opens = opens_from o m ks (sym found) in (opens.some, omega (arith, opens.spare, opens.most))
 
-  built : built_shape ks bs ≡ groups (singles (paired ks (tops o m ks)))
-  built = let f = few in cond-true (leb 1 (length ks) && leb (length ks) 64) _ _ (grind (arith, nat_tests)) ∙ ap (λ (xs : List (ℕ × ℕ)). groups (singles (paired ks xs))) bounded
+  built_all : built_shape ks bs ≡ groups (singles (paired ks (tops o m ks)))
+  built_all = let f = few in cond-true (leb 1 (length ks) && leb (length ks) 64) _ _ (grind (arith, nat_tests)) ∙ ap (λ (xs : List (ℕ × ℕ)). groups (singles (paired ks xs))) bounded
 
   pub told_open : (s : State) → (s ≡ Dark → ⊥) → Ok tt ≡ open_told s (open_answer o m)
   told_open Blank h = ap (open_told Blank) found
@@ -122,13 +162,13 @@ module _ (o : WordKind) (ordered : WordOrdered o) (m ks : List ℕ) (bs : List (
   told_open Dark h = absurd (h refl)
 
   pub shaped_open : (s r : State) → (s ≡ Dark → ⊥) → shape_of r ≡ built_shape ks bs → shape_of r ≡ open_shape o m s
-  shaped_open Blank r h e = e ∙ built ∙ ap (found_shape o m) found
-  shaped_open (Open x) r h e = e ∙ built ∙ ap (found_shape o m) found
+  shaped_open Blank r h e = e ∙ built_all ∙ ap (found_shape o m) found
+  shaped_open (Open x) r h e = e ∙ built_all ∙ ap (found_shape o m) found
   shaped_open Dark r h e = absurd (h refl)
 
   pub sound_open : (r : State) → shape_of r ≡ built_shape ks bs → Sound o m r
   sound_open Blank e = tt
   sound_open (Open x) e =
-      let is : listed x ≡ paired ks (tops o m ks) = ap concat (same_groups _ _ (e ∙ built)) ∙ concat_singles (paired ks (tops o m ks)) in
+      let is : listed x ≡ paired ks (tops o m ks) = ap concat (same_groups _ _ (e ∙ built_all)) ∙ concat_singles (paired ks (tops o m ks)) in
       subst (Fits o m) (sym is) (opened_fits o ordered m ks (sym found))
   sound_open Dark e = tt

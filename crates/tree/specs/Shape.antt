@@ -1,9 +1,13 @@
 -- A logbook's state by what its index means, and what opening makes of it.
-use Rattle.std.specs.Prelude.{ℕ, cond, ◌&&◌, List, [], ◌∷◌, length, Ok, Err, Result, nat_le}
+use Rattle.std.specs.Prelude.{ℕ, cond, ◌&&◌, List, [], ◌∷◌, map, length, Some, None, Ok, Err, Option, Result, nat_le}
+use Rattle.refusal.specs.declared.Refusal.{Refusal}
 use Rattle.refusal.specs.declared.Refusal.TheVariants.{NoPower}
 use Rattle.keys.specs.InWords.{WordKind}
 use Rattle.leaves.specs.declared.open.Fault.{Fault}
-use Rattle.leaves.specs.Opening.{open_answer, plain, tops}
+use Rattle.leaves.specs.Asking.{counted}
+use Rattle.leaves.specs.Layout.{count_of}
+use Rattle.leaves.specs.Opening.{greatest, open_answer, plain}
+use Rattle.books.specs.Bounds.{value}
 use Rattle.index.specs.declared.node.Entry.{Entry}
 use Rattle.index.specs.Meaning.{grouped}
 use Rattle.index.specs.Nodes.{entry}
@@ -27,6 +31,18 @@ abbrev pub paired : List ℕ → List (ℕ × ℕ) → List Entry
 paired [] bs = []
 paired (k ∷ ks) [] = []
 paired (k ∷ ks) (b ∷ bs) = entry k b ∷ paired ks bs
+
+-- The greatest counted key of each leaf, or no key's words where there is none.
+abbrev pub tops : WordKind → List ℕ → List ℕ → List (ℕ × ℕ)
+tops o m ks = map (λ k. value (greatest o m k (count_of m k))) ks
+
+-- That key of one leaf, asked from outside.
+abbrev pub top_told : Result (Option (ℕ × ℕ)) Refusal → ℕ × ℕ
+top_told (Ok best) = value best
+top_told (Err e) = (0, 0)
+
+abbrev pub top_at : WordKind → List ℕ → ℕ → ℕ × ℕ
+top_at o m k = top_told (counted m k (greatest o m k))
 
 -- An index built of 1 to 64 leaves.
 abbrev pub built_shape : List ℕ → List (ℕ × ℕ) → Shape

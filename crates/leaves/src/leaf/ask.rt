@@ -1,10 +1,12 @@
 // What one leaf of a memory holds, asked from outside: refused where the leaf is not within the memory or counts too many slots.
 ghost use Rattle.std.specs.Prelude.{◌≡◌, length};
 ghost use Rattle.keys.specs.InWords.{in_words};
+ghost use Rattle.leaves.specs.Opening.{greatest as greatest_of};
 ghost use Rattle.leaves.specs.Asking.{count_answer, counted};
 ghost use Rattle.leaves.specs.Pairs.{first_after, lookup, pairs};
 
 use super::Pair;
+use crate::leaf::check::greatest;
 use crate::leaf::read::{find, word_at};
 use crate::leaf::sorted::{load, next};
 use keys::Key;
@@ -61,4 +63,16 @@ pub fn pairs_in<K: Key, M: Memory>(memory: &mut M, leaf: usize) -> Result<usize,
     let count = count_in(memory, leaf)?;
     let run = load::<K, M>(memory, leaf, count);
     Ok(run.len)
+}
+
+// The greatest key that the leaf counts, if it counts one.
+pub fn greatest_in<K: Key, M: Memory>(
+    memory: &mut M,
+    leaf: usize,
+) -> Result<Option<(u64, u64)>, Refusal>
+    ensures same { M.Memory.meaning memory.new ≡ M.Memory.meaning memory.old }
+    ensures value { result ≡ counted (M.Memory.meaning memory.old).live leaf (greatest_of (in_words K.Key.kind) (M.Memory.meaning memory.old).live leaf) }
+{
+    let count = count_in(memory, leaf)?;
+    Ok(greatest::<K, M>(memory, leaf, count))
 }

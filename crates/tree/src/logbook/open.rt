@@ -1,34 +1,50 @@
 // Open.
-ghost use Rattle.std.specs.Prelude.{◌≡◌};
+ghost use Rattle.std.specs.Prelude.{◌≡◌, take, Ok};
 ghost use Rattle.keys.specs.InWords.{in_words};
-ghost use Rattle.leaves.specs.Opening.{bounds-in, leaves_of, open_answer};
+ghost use Rattle.leaves.specs.Opening.{open_answer};
 ghost use Rattle.tree.specs.Sound.{Sound};
-ghost use Rattle.tree.specs.Shape.{built_shape, open_shape, open_told, shape_of};
+ghost use Rattle.tree.specs.Shape.{built_shape, open_shape, open_told, shape_of, top_at, tops};
 
 use super::{Logbook, State};
 use index::node::Entry;
 use index::table::Index;
 use keys::Key;
+use leaves::leaf::ask::greatest_in;
+use leaves::open::Fault;
 use leaves::open::walk::open;
-use leaves::open::{Chain, Fault};
 use memory::Memory;
 use refusal::Refusal;
 
-// The state of a logbook that has found these leaves.
-fn opened(chain: &Chain) -> State
-    ensures { shape_of result ≡ built_shape (leaves_of chain.now) (bounds-in chain.now) }
+// The greatest counted key of a leaf, (0, 0) where there is none.
+fn top<K: Key, M: Memory>(memory: &mut M, leaf: usize) -> (u64, u64)
+    ensures same { M.Memory.meaning memory.new ≡ M.Memory.meaning memory.old }
+    ensures value { result ≡ top_at (in_words K.Key.kind) (M.Memory.meaning memory.old).live leaf }
+{
+    match greatest_in::<K, M>(memory, leaf) {
+        Ok(Some(key)) => key,
+        Ok(None) => (0, 0),
+        Err(_) => (0, 0),
+    }
+}
+
+// The state of a logbook that has found the first `len` of these leaves in its memory.
+fn opened<K: Key, M: Memory>(memory: &mut M, leaves: [usize; 64], len: usize) -> State
+    requires { open_answer (in_words K.Key.kind) (M.Memory.meaning memory.old).live ≡ Ok (take len leaves) }
+    ensures same { M.Memory.meaning memory.new ≡ M.Memory.meaning memory.old }
+    ensures shape { shape_of result ≡ built_shape (take len leaves) (tops (in_words K.Key.kind) (M.Memory.meaning memory.old).live (take len leaves)) }
 {
     let mut entries = [Entry {
         to: 0,
         bound: (0, 0),
     }; 64];
-    for i in 0..chain.len {
+    for i in 0..len {
+        let leaf = leaves[i];
         entries[i] = Entry {
-            to: chain.leaves[i],
-            bound: chain.bounds[i],
+            to: leaf,
+            bound: top::<K, M>(memory, leaf),
         };
     }
-    match Index::build(&entries[0..chain.len]) {
+    match Index::build(&entries[0..len]) {
         Some(index) => State::Open(index),
         None => State::Blank,
     }
@@ -51,7 +67,7 @@ impl<K: Key, M: Memory> Logbook<K, M> {
         }
         match open::<K, M>(&mut self.memory) {
             Ok(chain) => {
-                self.state = opened(&chain);
+                self.state = opened::<K, M>(&mut self.memory, chain.leaves, chain.len);
                 self.taken = 0;
                 Ok(())
             }

@@ -1,8 +1,9 @@
-use Rattle.std.proofs.Common.{◌≡◌, sym, subst, rules}
+use Rattle.std.proofs.Common.{◌≡◌, ◌∙◌, refl, sym, subst, rules}
 use Rattle.keys.specs.InWords.{in_words}
 use Rattle.keys.proofs.WordLaws.{in_words_ordered}
-use Rattle.leaves.specs.Opening.{bounds-in, leaves_of}
+use Rattle.leaves.specs.Opening.{leaves_of}
 use Rattle.memory.specs.Meaning.{Words}
+use Rattle.tree.specs.Shape.{built_shape, shape_of, tops}
 use Rattle.tree.specs.Sound.{Sound}
 use Rattle.tree.proofs.OpenLaws.{told_open, shaped_open, sound_open}
 use Rattle.tree.proofs.logbook.Logbook.open.Goals as goal
@@ -15,12 +16,13 @@ returns-in-Ok g c =
     let m = (g.M.Memory.meaning book.memory).live in
     let found = c.in-Ok.ensures in
     let ks = leaves_of c.in-Ok.chain in
-    let bs = bounds-in c.in-Ok.chain in
+    let bs = tops o m ks in
+    let same = c.opened-self.ensures.same ∙ found.same in
+    let r = c.opened-self.result in
+    let shape = subst (λ (w : Words). shape_of r ≡ built_shape ks (tops o w.live ks)) found.same c.opened-self.ensures.shape in
     record {
-      same = found.same;
-      answer = told_open o laws m ks bs found.value found.bounds book.state c.in_default.not-Dark;
-      state = shaped_open o laws m ks bs found.value found.bounds book.state c.opened-self.result c.in_default.not-Dark c.opened-self.ensures;
-      sound =
-          subst (λ (w : Words). Sound o w.live c.opened-self.result) (sym found.same)
-          (sound_open o laws m ks bs found.value found.bounds c.opened-self.result c.opened-self.ensures);
+      same = same;
+      answer = told_open o laws m ks bs found.value refl book.state c.in_default.not-Dark;
+      state = shaped_open o laws m ks bs found.value refl book.state r c.in_default.not-Dark shape;
+      sound = subst (λ (w : Words). Sound o w.live r) (sym same) (sound_open o laws m ks bs found.value refl r shape);
     }
