@@ -1,13 +1,13 @@
 -- Bounds part the keys of a memory that opens, and locating by them finds a key's leaf.
-use Rattle.std.proofs.Common.{◌≡◌, ℕ, zero, suc, ◌+◌, ◌<◌, ◌≤◌, Bool, true, false, cond, ◌&&◌, ◌⊎◌, List, [], ◌∷◌, ◌++◌, length, Some, None, Option, sym, refl, ap, ◌∙◌, subst, inl, inr, ⊎_elim, arith}
-use Rattle.std.proofs.lemmas.Bool.{and_parts, cases_Bool, cond-true, cond-false, false≢true}
+use Rattle.std.proofs.Common.{◌≡◌, ℕ, suc, ◌<◌, Bool, true, false, List, [], ◌∷◌, length, Some, None, Option, sym, refl, ap, ◌∙◌, subst, ⊎_elim, arith}
+use Rattle.std.proofs.lemmas.Bool.{cases_Bool, cond-true, cond-false, false≢true}
 use Rattle.keys.specs.InWords.{WordKind, WordOrdered}
 use Rattle.leaves.specs.Layout.{element, count_of}
 use Rattle.leaves.specs.Pairs.{pairs}
-use Rattle.leaves.specs.Opening.{after, good, greatest}
+use Rattle.leaves.specs.Opening.{after, greatest}
 use Rattle.leaves.proofs.BookLaws.{after_more, between, good_after, greatest_top, key_before}
 use Rattle.books.specs.Opens.{Fine, AllFine, lone}
-use Rattle.books.specs.Bounds.{Keys, AtMost, Bounded, locate, Place, Locates, value, bounds_of, OpeningBounds}
+use Rattle.books.specs.Bounds.{Keys, Bounded, locate, Place, Locates, value, bounds_of, OpeningBounds}
 use Rattle.books.proofs.OpensLaws.{opens_from}
 
 abbrev pub Busy : List ℕ → List ℕ → Type 0

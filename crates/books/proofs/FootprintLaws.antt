@@ -1,14 +1,13 @@
 -- Opening and the book rest on the footprint alone.
-use Rattle.std.proofs.Common.{◌≡◌, ℕ, zero, suc, ◌+◌, ◌-◌, ◌*◌, ◌<◌, ◌≤◌, Bool, true, false, cond, not, ◌&&◌, ◌||◌, T, eqb, ltb, leb, ◌⊎◌, List, [], ◌∷◌, ◌++◌, length, get_or, Some, None, Ok, Err, Option, sym, refl, ap, ◌∙◌, inl, inr, ⊎_elim, add-zero, arith}
-use Rattle.std.proofs.lemmas.Bool.{cases_Bool, cond-true, cond-false, and_from, or_left, or_right, le-leb, lt-ltb}
+use Rattle.std.proofs.Common.{◌≡◌, ℕ, zero, suc, ◌+◌, ◌-◌, ◌<◌, ◌≤◌, Bool, true, false, cond, ◌&&◌, ◌||◌, T, eqb, ltb, List, [], ◌∷◌, ◌++◌, get_or, None, Err, Option, refl, ap, ◌∙◌, add-zero, arith}
+use Rattle.std.proofs.lemmas.Bool.{and_from, or_left, or_right, le-leb, lt-ltb}
 use Rattle.keys.specs.InWords.{WordKind}
 use Rattle.leaves.specs.Layout.{word, leaf_at, slot_at, element, next_of, count_of, form_of}
 use Rattle.leaves.specs.Pairs.{pairs}
-use Rattle.refusal.specs.declared.Refusal.TheVariants.{WrongLength, WrongMark, OtherKind, LeafCount}
-use Rattle.leaves.specs.Opening.{plain, bad_link_of, bad_leaf_of}
-use Rattle.leaves.specs.Opening.{good, first_bad, leaf_fault, greatest, ended, checked, member, walk, open_answer}
+use Rattle.leaves.specs.Opening.{bad_link_of}
+use Rattle.leaves.specs.Opening.{good, first_bad, leaf_fault, greatest, ended, checked, member, walk}
 use Rattle.leaves.specs.Ascent.{chain, all_pairs}
-use Rattle.books.specs.Footprint.{Alike, linked, book, in_leaf, in_leaves, footprint, Depends}
+use Rattle.books.specs.Footprint.{linked, in_leaf, in_leaves, Depends}
 
 pub holds : (b : Bool) → b ≡ true → T b
 holds b e = rw e tt

@@ -18,7 +18,6 @@ use Rattle.leaves.specs.Layout.{word, count_of}
 use Rattle.leaves.specs.Opening.{open_answer, plain}
 use Rattle.leaves.specs.Pairs.{pairs}
 use Rattle.leaves.specs.Ascent.{all_pairs}
-use Rattle.books.specs.Footprint.{book}
 use Rattle.books.specs.Opens.{Opens}
 use Rattle.books.specs.Format.{Empty, FormatCut, Formats, Roomy, format_writes, formatted}
 use Rattle.books.proofs.OpensLaws.{opening_holds}

@@ -1,11 +1,11 @@
 -- Opening and its meaning leaf by leaf are the same.
-use Rattle.std.proofs.Common.{◌≡◌, ℕ, zero, suc, ◌+◌, ◌-◌, ◌*◌, ◌<◌, ◌≤◌, Bool, true, false, cond, not, ◌&&◌, ◌||◌, eqb, ltb, leb, ◌⊎◌, List, [], ◌∷◌, ◌++◌, length, Some, None, Ok, Err, Option, Result, sym, refl, ap, ◌∙◌, inl, inr, ⊎_elim, append_assoc, append-nil, arith, length-append}
+use Rattle.std.proofs.Common.{◌≡◌, ℕ, zero, suc, ◌+◌, ◌-◌, ◌*◌, ◌<◌, ◌≤◌, Bool, true, false, cond, not, ◌&&◌, ◌||◌, eqb, ltb, leb, List, [], ◌∷◌, ◌++◌, length, Some, None, Ok, Err, Option, Result, sym, refl, ap, ◌∙◌, inl, inr, ⊎_elim, append_assoc, append-nil, arith}
 use Rattle.std.proofs.lemmas.Bool.{cases_Bool, cond-true, cond-false, and_parts, and_from, and_left, or_cases, or_parts, or_from, or_left, or_right, leb-true, le-leb, ltb-true, ltb-false, lt-ltb, le-ltb, eqb-true, eqb-false, eq-eqb, ne_eqb, not-false, not_from_true}
 use Rattle.keys.specs.InWords.{WordKind}
 use Rattle.leaves.specs.Layout.{word, element, next_of, count_of, form_of}
 use Rattle.leaves.specs.declared.open.Fault.{Fault}
 use Rattle.refusal.specs.declared.Refusal.TheVariants.{WrongLength, WrongMark, OtherKind, LeafCount}
-use Rattle.leaves.specs.Opening.{plain, bad_link_of, bad_leaf_of}
+use Rattle.leaves.specs.Opening.{plain, bad_link_of}
 use Rattle.leaves.specs.Pairs.{pairs}
 use Rattle.leaves.specs.Opening.{good, first_bad, leaf_fault, greatest, ended, checked, member, walk, open_answer}
 use Rattle.leaves.proofs.BookLaws.{some_none, err_ok, all_good}

@@ -1,5 +1,5 @@
 -- Find, next and pairs tell of a book what its leaves tell.
-use Rattle.std.proofs.Common.{◌≡◌, ℕ, ◌+◌, ◌-◌, Bool, true, false, cond, List, [], ◌∷◌, ◌++◌, length, Some, None, Ok, Option, sym, refl, ap, ◌∙◌, ⊎_elim, append_assoc, length-append}
+use Rattle.std.proofs.Common.{◌≡◌, ℕ, ◌+◌, ◌-◌, true, false, cond, List, [], ◌∷◌, ◌++◌, length, Some, None, Ok, sym, refl, ap, ◌∙◌, ⊎_elim, append_assoc, length-append}
 use Rattle.std.proofs.lemmas.Bool.{both_ways, cases_Bool, cond-true, cond-false}
 use Rattle.keys.specs.InWords.{WordKind, WordOrdered}
 use Rattle.leaves.specs.declared.leaf.Pair.{Pair}
@@ -11,8 +11,8 @@ use Rattle.leaves.proofs.PairLaws.{equal_true}
 use Rattle.leaves.proofs.AscentLaws.{each_map, each_pairs}
 use Rattle.leaves.proofs.BookLaws.{each_append, walk_chain, walked}
 use Rattle.books.specs.Bounds.{Keys}
-use Rattle.books.specs.Footprint.{book, linked}
-use Rattle.books.specs.Questions.{Belongs, Finds, Nexts, Counts, first_of, or_else, pairs_in_all}
+use Rattle.books.specs.Footprint.{linked}
+use Rattle.books.specs.Questions.{Finds, Nexts, Counts, first_of, or_else, pairs_in_all}
 
 -- an opened list of leaves is the chain of the words
 pub linked_is : (o : WordKind) → WordOrdered o → (m ks : List ℕ) → open_answer o m ≡ Ok ks → linked m ≡ ks

@@ -1,5 +1,5 @@
 -- Bounds between leaves, and locating by them.
-use Rattle.std.specs.Prelude.{◌≡◌, ℕ, zero, suc, ◌+◌, ◌<◌, Bool, true, false, cond, List, [], ◌∷◌, ◌++◌, length, take, drop, Some, None, Ok, Option}
+use Rattle.std.specs.Prelude.{◌≡◌, ℕ, suc, ◌<◌, true, false, cond, List, [], ◌∷◌, ◌++◌, length, Some, None, Ok, Option}
 use Rattle.keys.specs.InWords.{WordKind, WordOrdered}
 use Rattle.leaves.specs.Layout.{element, count_of}
 use Rattle.leaves.specs.Opening.{greatest, open_answer}

@@ -3,7 +3,7 @@ use Rattle.std.specs.Prelude.{◌≡◌, ℕ, ◌+◌, ◌*◌, ◌≤◌, ◌�
 use Rattle.refusal.specs.declared.Refusal.TheVariants.{WrongMark}
 use Rattle.keys.specs.InWords.{WordKind, WordOrdered}
 use Rattle.memory.specs.Meaning.{Words, size_of, Settled}
-use Rattle.writes.specs.Writes.{LineWrite, Run, cost, perform, row}
+use Rattle.writes.specs.Writes.{LineWrite, Run, perform, row}
 use Rattle.writes.specs.Laws.{Cut}
 use Rattle.leaves.specs.Opening.{open_answer, plain}
 use Rattle.books.specs.Footprint.{book}

@@ -1,17 +1,17 @@
 -- A change of one group that keeps its last bound changes one node.
-use Rattle.std.proofs.Common.{◌≡◌, ℕ, zero, suc, ◌+◌, ◌-◌, ◌*◌, ◌<◌, ◌≤◌, min, Bool, true, false, cond, ltb, ◌≢◌, List, [], ◌∷◌, ◌++◌, map, length, get_or, take, drop, set, sym, refl, ap, ◌∙◌, subst, ⊎_elim, arith, length-drop, length-set, length-take, get_or-set_other, get_or-set_same}
+use Rattle.std.proofs.Common.{◌≡◌, ℕ, zero, suc, ◌+◌, ◌-◌, ◌<◌, cond, ltb, ◌≢◌, List, [], ◌∷◌, map, length, get_or, take, drop, set, sym, refl, ap, ◌∙◌, subst, ⊎_elim, arith, length-set, length-take, get_or-set_other, get_or-set_same}
 use lib.ListN
 use lib.ListN.{length-map}
 use lib.Seq.{map-set, set-get_or, take-set-lt, drop-set-add}
-use Rattle.std.proofs.lemmas.Bool.{cond-true, cond-false, cases_eq, cases_Bool, ltb-false}
+use Rattle.std.proofs.lemmas.Bool.{cond-true, cases_eq, cases_Bool, ltb-false}
 use Rattle.index.specs.declared.node.Entry.{Entry}
 use Rattle.index.specs.declared.node.Node.{Node}
 use Rattle.index.specs.declared.table.Index.{Index}
 use Rattle.index.specs.Meaning.{grouped}
 use Rattle.index.proofs.LocateLaws.{length_grouped, low_node}
 use Rattle.std.proofs.lemmas.List.{get_or-map}
-use Rattle.index.specs.Nodes.{items, bounds, entry, parted, renamed}
-use Rattle.index.specs.Search.{last, Full}
+use Rattle.index.specs.Nodes.{items, bounds, parted, renamed}
+use Rattle.index.specs.Search.{last}
 use Rattle.index.specs.Shape.{lasts, lowest, upper, table, groups, Sound}
 use Rattle.index.proofs.BuildLaws.{same_is, same_of, table_low, lowest_le}
 

@@ -1,15 +1,15 @@
 -- The bounds still ascend after a split of a leaf.
-use Rattle.std.proofs.Common.{◌≡◌, ℕ, zero, suc, ◌+◌, ◌<◌, true, leb, ◌≢◌, List, [], ◌∷◌, length, get_or, set, sym, refl, ap, ◌∙◌, arith, length-set}
+use Rattle.std.proofs.Common.{◌≡◌, ℕ, zero, suc, ◌+◌, ◌<◌, true, leb, ◌≢◌, List, [], ◌∷◌, length, get_or, set, refl, ap, ◌∙◌, arith, length-set}
 use lib.ListN.{length-map}
 use Rattle.keys.specs.InWords.{WordKind, WordOrdered}
 use Rattle.index.specs.declared.node.Entry.{Entry}
-use Rattle.index.specs.Nodes.{bounds, joined, parted, renamed}
+use Rattle.index.specs.Nodes.{bounds, joined, parted}
 use Rattle.index.specs.Search.{concat, last, front, Above, Ascending}
 use Rattle.index.specs.Showing.{telling, node_told}
 use Rattle.std.proofs.lemmas.Bool.{cond-true, lt-ltb}
 use Rattle.index.specs.Shape.{lowest, table}
-use Rattle.index.specs.Places.{within, group_of, position}
-use Rattle.index.specs.Keeping.{AscendsWith, AscendsStill, FitsAt, SplitAscends, MergeAscends, ReplaceKeeps, OtherNode, ReplaceOneNode, SplitOneNode}
+use Rattle.index.specs.Places.{group_of, position}
+use Rattle.index.specs.Keeping.{AscendsWith, AscendsStill, FitsAt, SplitAscends, MergeAscends, ReplaceKeeps, ReplaceOneNode, SplitOneNode}
 use Rattle.index.proofs.PlaceLaws.{Within, within_parts}
 use Rattle.index.proofs.ListLaws.{offset_within}
 use Rattle.index.specs.declared.table.Place.{Place}

@@ -1,19 +1,18 @@
 -- One turn of listing all groups, and what changes of one group do to the list of all leaves.
-use Rattle.std.proofs.Common.{◌≡◌, ℕ, zero, suc, ◌+◌, ◌-◌, ◌<◌, ◌≤◌, min, Bool, true, false, cond, ◌&&◌, ltb, List, [], ◌∷◌, ◌++◌, map, length, get_or, take, drop, set, sym, refl, ap, ◌∙◌, append_assoc, append-nil, arith, length-append, length-set, length-take}
+use Rattle.std.proofs.Common.{◌≡◌, ℕ, zero, suc, ◌+◌, ◌-◌, ◌<◌, ◌≤◌, Bool, true, false, ◌&&◌, ltb, List, [], ◌∷◌, ◌++◌, length, get_or, take, drop, set, sym, refl, ap, ◌∙◌, append_assoc, append-nil, arith, length-append, length-set, length-take}
 use Rattle.std.proofs.lemmas.List.{drop_more, drop_all, get_or_append_left, get_or-append-add, get_or-take}
 use Rattle.index.specs.declared.node.Entry.{Entry}
 use Rattle.index.specs.declared.node.Node.{Node}
 use Rattle.index.specs.declared.chain.Chain.{Chain}
-use Rattle.index.specs.Nodes.{items, chained, parted, renamed, without, joined, entry}
+use Rattle.index.specs.Nodes.{items, chained, parted, renamed, without, joined}
 use Rattle.index.specs.Search.{concat, offset}
-use Rattle.index.specs.Shape.{singles}
 use Rattle.index.specs.declared.table.Place.{Place}
 use Rattle.index.specs.Places.{position, group_of, within}
 use Rattle.index.specs.Meaning.{split, splits, with_group}
 use Rattle.index.proofs.PlaceLaws.{Within, within_parts}
 use Rattle.index.proofs.BuildLaws.{concat_singles}
 use Rattle.index.proofs.ChangeLaws.{length_parted, length_renamed, count_is}
-use Rattle.std.proofs.lemmas.Bool.{cond_both, and_parts, and_from, ltb-true, le-ltb, lt-ltb}
+use Rattle.std.proofs.lemmas.Bool.{cond_both, and_parts, ltb-true, le-ltb, lt-ltb}
 
 and_false : (a b : Bool) → b ≡ false → false ≡ (a && b)
 and_false true b e = sym e

@@ -1,20 +1,20 @@
 -- The walk from the root down.
-use Rattle.std.proofs.Common.{◌≡◌, ℕ, zero, suc, ◌+◌, ◌-◌, ◌*◌, ◌<◌, ◌≤◌, min, Bool, true, false, cond, List, [], ◌∷◌, ◌++◌, map, length, get_or, take, drop, sym, refl, ap, ◌∙◌, subst, arith, length-append, length-drop, length-take}
+use Rattle.std.proofs.Common.{◌≡◌, ℕ, zero, suc, ◌+◌, ◌-◌, ◌*◌, ◌<◌, ◌≤◌, min, List, [], ◌∷◌, ◌++◌, map, length, get_or, take, drop, sym, refl, ap, ◌∙◌, subst, arith, length-append, length-drop, length-take}
 use mathlib.Core.List.{map-append}
 use lib.ListN
 use lib.ListN.{length-map}
 use Rattle.std.proofs.lemmas.List.{get_or-map}
-use Rattle.std.proofs.lemmas.Bool.{cond-true, cond-false, lt-ltb, le-leb, lt-leb, eq-eqb, ne_eqb}
+use Rattle.std.proofs.lemmas.Bool.{cond-true, cond-false, lt-ltb, le-leb, lt-leb, ne_eqb}
 use Rattle.keys.specs.InWords.{WordKind, WordOrdered}
 use Rattle.index.specs.declared.node.Entry.{Entry}
 use Rattle.index.specs.declared.node.Node.{Node}
 use Rattle.index.specs.declared.table.Index.{Index}
-use Rattle.index.specs.Nodes.{items, bounds, entry}
+use Rattle.index.specs.Nodes.{items, bounds}
 use Rattle.index.specs.Search.{search, First, last, front, concat, offset, Ascending, Full}
-use Rattle.index.specs.Shape.{numbered, rows, lasts, lowest, upper, table, groups}
+use Rattle.index.specs.Shape.{numbered, rows, lasts, lowest, table}
 use Rattle.index.specs.Meaning.{grouped}
 use Rattle.index.proofs.BuildLaws.{lowest_le, same_is, rows_at, table_low}
-use Rattle.index.proofs.SearchLaws.{finds_first, finds_only, Filled, filled, search_within, through, lasts_ascend, concat_rows, rows_full, offset_rows}
+use Rattle.index.proofs.SearchLaws.{finds_first, finds_only, Filled, filled, through, lasts_ascend, concat_rows, rows_full, offset_rows}
 
 pub length_grouped : (x : Index) → length (grouped x) ≡ x.used
 unfolding grouped

@@ -1,6 +1,5 @@
 -- Copying a part of each entry.
-use Rattle.std.proofs.Common.{◌≡◌, ℕ, ◌+◌, ◌-◌, ◌<◌, ◌≤◌, min, Bool, leb, List, [], ◌∷◌, ◌++◌, map, length, get_or, take, set, sym, refl, ap, ◌∙◌, arith, length-take, take-take}
-use lib.ListN.{length-map}
+use Rattle.std.proofs.Common.{◌≡◌, ℕ, ◌+◌, ◌-◌, ◌<◌, Bool, leb, List, [], ◌∷◌, ◌++◌, map, length, get_or, take, set, sym, ap, ◌∙◌, arith, length-take, take-take}
 use Rattle.std.proofs.lemmas.List.{take_more_set, map_more, take-map}
 use Rattle.index.specs.declared.node.Entry.{Entry}
 use Rattle.index.specs.declared.node.Node.{Node}

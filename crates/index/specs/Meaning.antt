@@ -1,5 +1,5 @@
 -- What an index means: its groups of leaves in their order.
-use Rattle.std.specs.Prelude.{ℕ, ◌+◌, ◌-◌, Bool, cond, ◌&&◌, List, [], length, is_some, Some, None, Option, nat_le, nat_lt, slice_index_or, slice_set}
+use Rattle.std.specs.Prelude.{ℕ, Bool, cond, ◌&&◌, List, length, is_some, Some, None, Option, nat_le, nat_lt, slice_index_or, slice_set}
 use Rattle.index.specs.declared.node.Entry.{Entry}
 use Rattle.index.specs.declared.table.Index.{Index}
 use Rattle.index.specs.declared.table.Place.{Place}

@@ -1,5 +1,5 @@
 -- Which of a list of bounds a key belongs to, and the same by groups.
-use Rattle.std.specs.Prelude.{◌≡◌, ℕ, zero, suc, ◌+◌, ◌<◌, ◌≤◌, Bool, true, false, cond, List, [], ◌∷◌, ◌++◌, length, slice_index_or}
+use Rattle.std.specs.Prelude.{◌≡◌, ℕ, zero, suc, ◌+◌, ◌<◌, ◌≤◌, true, false, cond, List, [], ◌∷◌, ◌++◌, length, slice_index_or}
 use Rattle.keys.specs.InWords.{WordKind}
 
 -- The place of the first bound that is not before the key, otherwise of the last.

@@ -2,10 +2,10 @@
 use Rattle.std.proofs.Common.{◌≡◌, ℕ, suc, ◌+◌, ◌-◌, ◌*◌, ◌/◌, ◌%◌, ◌<◌, ◌≤◌, Bool, true, false, T, ltb, length, get_or, take, is_some, sum, sym, refl, ap, ◌∙◌, arith}
 use Rattle.std.proofs.lemmas.Bool.{true≢false}
 use Rattle.keys.specs.Calendar.{OrdinalDates, instant_of, OrderOfInstants, OneStampEach, Known}
-use Rattle.keys.specs.Dates.{days_in, valid_stamp}
-use Rattle.keys.specs.Gregorian.{Date, ordinal, months, elapsed, instant, day_number}
+use Rattle.keys.specs.Dates.{valid_stamp}
+use Rattle.keys.specs.Gregorian.{Date, ordinal, months, elapsed, day_number}
 use Rattle.keys.specs.Making.{made}
-use Rattle.keys.specs.Stamps.{stamp, stamp_kind}
+use Rattle.keys.specs.Stamps.{stamp_kind}
 use Rattle.keys.specs.declared.stamp.Stamp.{Stamp}
 use Rattle.keys.proofs.CalendarLaws.{Valid, valid_from, from_valid, days_of_months, find_month, in_months, find_year, year_ends, by_day_number, by_millisecond}
 use Rattle.keys.specs.Lexical.{lt_irreflexive}

@@ -1,6 +1,6 @@
 -- The laws of ports as keys.
-use Rattle.std.specs.Prelude.{◌≡◌, ℕ, Some, refl}
-use Rattle.std.proofs.Common.{sym, ap, ◌∙◌}
+use Rattle.std.specs.Prelude.{◌≡◌, ℕ, Some}
+use Rattle.std.proofs.Common.{sym, ap}
 use Rattle.keys.specs.Kind.{Ordered, Formed}
 use Rattle.keys.specs.Identities.{valid_port}
 use Rattle.keys.specs.Ports.{port, port_kind}

@@ -1,8 +1,8 @@
 -- Every mix of the words that a layer shows can be chosen below.
-use Rattle.std.proofs.Common.{◌≡◌, ℕ, zero, suc, ◌+◌, ◌*◌, ◌/◌, ◌%◌, ◌<◌, Bool, true, false, ◌&&◌, ◌||◌, eqb, List, get_or, sym, refl, ap, ◌∙◌, inl, inr, arith}
+use Rattle.std.proofs.Common.{◌≡◌, ℕ, zero, suc, ◌/◌, ◌<◌, Bool, true, false, ◌&&◌, ◌||◌, eqb, get_or, sym, refl, ap, ◌∙◌, inl, inr, arith}
 use Rattle.std.proofs.lemmas.Bool.{cases_eq, eq-eqb, ne_eqb}
-use Rattle.memory.specs.Meaning.{Words, Lawful, Freely, size_of, picked, odd_at}
-use Rattle.layers.specs.Layers.{Numbering, layered, place, seen, shown}
+use Rattle.memory.specs.Meaning.{Words, Lawful, Freely, size_of, odd_at}
+use Rattle.layers.specs.Layers.{Numbering, layered, place, shown}
 use Rattle.memory.proofs.Words.{length_tabled, picked_by}
 use Rattle.layers.proofs.Views.{View, Sound, shown_picked}
 

@@ -1,11 +1,10 @@
 -- The pairs of a leaf ascend, for every content; the pairs of a memory that opens ascend from leaf to leaf.
-use Rattle.std.proofs.Common.{◌≡◌, ℕ, zero, suc, ◌+◌, ◌-◌, ◌<◌, ◌≤◌, Bool, true, false, cond, ◌&&◌, eqb, ◌⊎◌, List, [], ◌∷◌, ◌++◌, Some, None, Option, sym, refl, ap, ◌∙◌, subst, inl, inr, ⊎_elim, arith}
-use Rattle.std.proofs.lemmas.Bool.{cases_Bool, cond_both}
+use Rattle.std.proofs.Common.{◌≡◌, ℕ, zero, suc, ◌<◌, true, eqb, List, [], ◌∷◌, subst, arith}
+use Rattle.std.proofs.lemmas.Bool.{cond_both}
 use Rattle.keys.specs.InWords.{WordKind, WordOrdered}
-use Rattle.leaves.specs.declared.leaf.Element.{Element}
 use Rattle.leaves.specs.declared.leaf.Pair.{Pair}
 use Rattle.leaves.specs.Layout.{element}
-use Rattle.leaves.specs.Pairs.{equal, insert, delete, applied, pairs}
+use Rattle.leaves.specs.Pairs.{equal, insert, delete, pairs}
 use Rattle.leaves.specs.Ascent.{Each, Ascending}
 
 module _ (o : WordKind) where

@@ -1,5 +1,5 @@
 -- The pairs of a memory that opens ascend from leaf to leaf.
-use Rattle.std.proofs.Common.{◌≡◌, ℕ, zero, suc, ◌+◌, ◌-◌, ◌*◌, ◌<◌, ◌≤◌, Bool, true, false, cond, not, ◌&&◌, ◌||◌, eqb, ltb, leb, ◌⊎◌, List, [], ◌∷◌, ◌++◌, length, IfOk, Some, None, Ok, Err, Option, Result, sym, refl, ap, ◌∙◌, subst, inl, inr, ⊎_elim, append_assoc, append-nil, arith}
+use Rattle.std.proofs.Common.{◌≡◌, ℕ, zero, suc, ◌+◌, ◌-◌, ◌*◌, ◌<◌, ◌≤◌, Bool, true, false, cond, not, ◌&&◌, ◌||◌, eqb, ltb, leb, ◌⊎◌, List, [], ◌∷◌, ◌++◌, length, IfOk, Some, None, Ok, Err, Option, Result, sym, refl, ap, ◌∙◌, inl, inr, ⊎_elim, append_assoc, append-nil, arith}
 use Rattle.std.proofs.lemmas.Bool.{cases_Bool, cases_eq, cond-true, cond-false, cond_both, and_parts, or_cases, ltb-true, eqb-true, both_ways, eq-eqb}
 use Rattle.leaves.specs.declared.open.Chain.{Chain}
 use Rattle.keys.specs.InWords.{WordKind, WordOrdered}
@@ -7,7 +7,7 @@ use Rattle.leaves.specs.declared.leaf.Element.{Element}
 use Rattle.leaves.specs.declared.leaf.Pair.{Pair}
 use Rattle.leaves.specs.declared.open.Fault.{Fault}
 use Rattle.refusal.specs.declared.Refusal.TheVariants.{WrongLength, WrongMark, OtherKind, LeafCount}
-use Rattle.leaves.specs.Opening.{plain, bad_link_of, bad_leaf_of}
+use Rattle.leaves.specs.Opening.{plain, bad_link_of}
 use Rattle.leaves.specs.Layout.{word, element, next_of, count_of, form_of}
 use Rattle.leaves.specs.Pairs.{pairs}
 use Rattle.leaves.specs.Opening.{after, good, first_bad, leaf_fault, later, greatest, member, ended, checked, walk, leaves_of, told, open_answer}

@@ -1,12 +1,11 @@
 -- One step of each walk of opening.
-use Rattle.std.proofs.Common.{◌≡◌, ℕ, zero, suc, ◌+◌, ◌-◌, ◌<◌, ◌≤◌, Bool, true, false, cond, ◌&&◌, ◌||◌, eqb, ltb, List, [], ◌∷◌, ◌++◌, length, get_or, drop, Some, None, Ok, Err, Option, Result, sym, refl, ap, ◌∙◌, arith}
+use Rattle.std.proofs.Common.{◌≡◌, ℕ, zero, suc, ◌+◌, ◌-◌, ◌<◌, ◌≤◌, Bool, true, false, cond, ◌&&◌, ◌||◌, eqb, ltb, List, [], ◌∷◌, ◌++◌, length, get_or, drop, Some, None, Err, Option, Result, sym, ap, ◌∙◌, arith}
 use Rattle.std.proofs.lemmas.Bool.{eq-eqb, ne_eqb, lt-ltb, le-ltb, or_left, or_right, or_from, cond-false}
 use Rattle.std.proofs.lemmas.List.{at_drop_more}
 use Rattle.keys.specs.InWords.{WordKind}
 use Rattle.leaves.specs.declared.leaf.Element.{Element}
 use Rattle.leaves.specs.declared.open.Fault.{Fault}
-use Rattle.refusal.specs.declared.Refusal.TheVariants.{WrongLength, WrongMark, OtherKind, LeafCount}
-use Rattle.leaves.specs.Opening.{plain, bad_link_of, bad_leaf_of}
+use Rattle.leaves.specs.Opening.{bad_link_of, bad_leaf_of}
 use Rattle.leaves.specs.Layout.{word, element, next_of, count_of}
 use Rattle.leaves.specs.Pairs.{pairs}
 use Rattle.leaves.specs.Opening.{good, first_bad, leaf_fault, later, greatest, member, ended, checked, walk}

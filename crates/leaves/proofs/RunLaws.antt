@@ -3,7 +3,7 @@ use Rattle.std.proofs.Common.{◌≡◌, ℕ, suc, ◌+◌, ◌<◌, ◌≤◌, 
 use Rattle.std.proofs.lemmas.List.{at_drop_more, drop_all}
 use Rattle.keys.specs.InWords.{WordKind}
 use Rattle.leaves.specs.declared.leaf.Pair.{Pair}
-use Rattle.leaves.specs.Pairs.{equal, insert, delete, applied, pairs, first_after, kept, to_come}
+use Rattle.leaves.specs.Pairs.{equal, delete, applied, pairs, first_after, kept, to_come}
 use Rattle.leaves.specs.Layout.{element}
 use Rattle.leaves.specs.declared.leaf.Element.{Element}
 

@@ -1,10 +1,10 @@
 -- Stores and flushes of the buffered memory, by its two runs.
-use Rattle.std.proofs.Common.{◌≡◌, ℕ, ◌+◌, ◌-◌, ◌*◌, ◌/◌, ◌<◌, ◌≤◌, min, Bool, true, false, cond, ◌&&◌, eqb, ltb, leb, List, [], length, get_or, take, drop, set, is_ok, sym, refl, ap, ◌∙◌, arith, drop-set-lt, rules}
+use Rattle.std.proofs.Common.{◌≡◌, ℕ, ◌+◌, ◌-◌, ◌*◌, ◌/◌, ◌<◌, ◌≤◌, min, true, false, cond, ◌&&◌, eqb, ltb, leb, List, [], length, get_or, take, drop, set, is_ok, sym, refl, ◌∙◌, arith, drop-set-lt, rules}
 use lib.Seq.{take-set-lt}
 use Rattle.std.proofs.lemmas.List.{places, ext_get_or, length-take, get_or-take, length-drop, get_or-drop, length-set}
 use Rattle.std.proofs.lemmas.Bool.{cond-true, lt-ltb}
 use Rattle.std.proofs.lemmas.Bool.Decides.{nat_tests}
-use Rattle.memory.specs.Meaning.{picked, stored, flushed, store_answer, after_store, flush_answer, after_flush, odd_at, settle_answer, after_settle, Freely}
+use Rattle.memory.specs.Meaning.{picked, store_answer, after_store, flush_answer, after_flush, odd_at, settle_answer, after_settle, Freely}
 use Rattle.makes.specs.Makes.{shared, unshared, buffered_words, through_words}
 use Rattle.memory.proofs.Words.{chosen, length_chosen, odd_at_chosen, is_tabled, picked_by, picked_same, words_by}
 

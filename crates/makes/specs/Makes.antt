@@ -1,5 +1,5 @@
 -- What each make of memory means by the runs that it holds.
-use Rattle.std.specs.Prelude.{◌≡◌, ℕ, min, true, false, List, length, take, drop, refl}
+use Rattle.std.specs.Prelude.{ℕ, min, true, false, List, length, take, drop, refl}
 use Rattle.std.proofs.Common.{sym, ◌∙◌, arith}
 use Rattle.std.proofs.lemmas.List.{length-take-le}
 use Rattle.std.proofs.lemmas.Bool.{false≢true}

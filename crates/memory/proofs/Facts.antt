@@ -1,5 +1,5 @@
 -- What a granted call says of a memory, for those who build on one.
-use Rattle.std.proofs.Common.{◌≡◌, ℕ, ◌*◌, ◌/◌, ◌<◌, Bool, true, false, cond, eqb, leb, List, length, get_or, is_ok, Ok, Err, sym, refl, ap, ◌∙◌, arith}
+use Rattle.std.proofs.Common.{◌≡◌, ℕ, ◌/◌, ◌<◌, false, cond, eqb, List, get_or, is_ok, Ok, sym, ap, ◌∙◌, arith}
 use Rattle.std.proofs.lemmas.Bool.{cond-true}
 use Rattle.std.proofs.lemmas.Bool.Decides.{nat_tests}
 use Rattle.memory.specs.Meaning.{Words, size_of, exhausted, store_answer, stored, after_store, flush_answer, flushed, after_flush, CutOf, Settled, cut, odd_at, renewed, settle_answer, after_settle}

@@ -1,5 +1,5 @@
 -- The worked rows, each by computation or from a refused test.
-use Rattle.std.proofs.Common.{◌≡◌, ℕ, ◌+◌, ◌*◌, ◌<◌, Bool, true, false, ◌&&◌, T, is_ok, Ok, Err, Result, sym, refl, ap, ◌∙◌, arith}
+use Rattle.std.proofs.Common.{◌≡◌, ℕ, ◌+◌, ◌*◌, Bool, true, false, T, is_ok, Ok, Err, sym, refl, ap, arith}
 use Rattle.std.proofs.lemmas.Bool.Decides.{nat_tests}
 use Rattle.std.specs.Option.{ok_or}
 use Rattle.refusal.specs.declared.Refusal.TheVariants.{NotAKey}
@@ -7,9 +7,7 @@ use Rattle.keys.specs.Making.{made}
 use Rattle.keys.specs.Dates.{valid_stamp}
 use Rattle.keys.specs.Identities.{valid_port}
 use Rattle.keys.specs.Stamps.{stamp_of, stamp_kind}
-use Rattle.keys.specs.Ports.{port_of}
 use Rattle.keys.specs.declared.stamp.Stamp.{Stamp}
-use Rattle.keys.specs.declared.port.Port.{Port}
 use Rattle.rows.specs.Rows.{Rows}
 
 -- What a test refuses is not made, what it takes is, and what is made is made so.
@@ -30,13 +28,13 @@ no_stamp y d ms e = refused (valid_stamp y d ms) (λ p. record { year = y; day =
 
 form_of : (y d ms : ℕ) (s : Stamp) → stamp_of y d ms ≡ Ok s → stamp_kind.form s ≡ (ms, y * 512 + d)
 form_of y d ms s e =
-    let Made-so = from (valid_stamp y d ms) (λ p. record { year = y; day = d; millisecond = ms; ok = p }) s e in
-    sym (ap (λ (t : Stamp). stamp_kind.form t) Made-so.1)
+    let made_so = from (valid_stamp y d ms) (λ p. record { year = y; day = d; millisecond = ms; ok = p }) s e in
+    sym (ap (λ (t : Stamp). stamp_kind.form t) made_so.1)
 
 year_of : (y d ms : ℕ) (a : Stamp) → stamp_of y d ms ≡ Ok a → a.year ≡ y
 year_of y d ms a e =
-    let Made-so = from (valid_stamp y d ms) (λ p. record { year = y; day = d; millisecond = ms; ok = p }) a e in
-    sym (ap (λ (s : Stamp). s.year) Made-so.1)
+    let made_so = from (valid_stamp y d ms) (λ p. record { year = y; day = d; millisecond = ms; ok = p }) a e in
+    sym (ap (λ (s : Stamp). s.year) made_so.1)
 
 pub rows : Rows
 rows = record {

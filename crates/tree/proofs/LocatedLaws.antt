@@ -1,5 +1,5 @@
 -- The leaf that a sound logbook's index locates is where the key belongs, and can be asked.
-use Rattle.std.proofs.Common.{◌≡◌, ℕ, zero, suc, ◌+◌, ◌*◌, ◌<◌, ◌≤◌, Bool, true, false, cond, List, [], ◌∷◌, ◌++◌, map, length, get_or, Some, None, Ok, Err, Option, Result, sym, refl, ap, ◌∙◌, arith}
+use Rattle.std.proofs.Common.{◌≡◌, ℕ, zero, suc, ◌+◌, ◌*◌, ◌≤◌, Bool, cond, List, [], ◌∷◌, ◌++◌, length, get_or, None, Ok, Err, Option, Result, sym, refl, ap, ◌∙◌, arith}
 use Rattle.std.proofs.lemmas.Bool.Decides.{nat_tests}
 use Rattle.refusal.specs.declared.Refusal.{Refusal}
 use Rattle.keys.specs.InWords.{WordKind, WordOrdered}
@@ -7,8 +7,8 @@ use Rattle.leaves.specs.Layout.{count_of, next_of, word}
 use Rattle.leaves.specs.Opening.{greatest}
 use Rattle.leaves.specs.Asking.{count_answer, counted, granted}
 use Rattle.leaves.specs.Pairs.{lookup, pairs}
-use Rattle.books.specs.Opens.{AllFine, Leads, Opens, UpTo, lone}
-use Rattle.books.specs.Bounds.{Place, locate}
+use Rattle.books.specs.Opens.{AllFine, Leads, UpTo, lone}
+use Rattle.books.specs.Bounds.{locate}
 use Rattle.books.specs.Footprint.{book}
 use Rattle.books.specs.Questions.{Belongs}
 use Rattle.books.proofs.BoundLaws.{locates}

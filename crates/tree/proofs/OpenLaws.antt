@@ -1,13 +1,13 @@
 -- A logbook that has opened is sound.
-use Rattle.std.proofs.Common.{◌≡◌, ℕ, zero, suc, ◌+◌, ◌*◌, ◌<◌, ◌≤◌, Bool, true, false, cond, ◌&&◌, leb, ◌⊎◌, List, [], ◌∷◌, ◌++◌, map, length, get_or, get_or-take, length-take, take, set, Some, None, Ok, Err, Option, Result, sym, refl, ap, ◌∙◌, subst, inl, inr, ⊎_elim, add-one, arith}
+use Rattle.std.proofs.Common.{◌≡◌, ℕ, zero, suc, ◌+◌, ◌*◌, ◌<◌, ◌≤◌, Bool, true, ◌&&◌, leb, List, [], ◌∷◌, ◌++◌, length, get_or, get_or-take, length-take, take, set, Some, None, Ok, Option, Result, sym, refl, ap, ◌∙◌, subst, ⊎_elim, add-one, arith}
 use Rattle.std.proofs.lemmas.Bool.Decides.{nat_tests}
 use Rattle.std.proofs.lemmas.Bool.{cases_Bool, cond-true, cond-false}
-use Rattle.std.proofs.lemmas.List.{get_or-map, length-map, take-map, take_more_set}
+use Rattle.std.proofs.lemmas.List.{get_or-map, take-map, take_more_set}
 use Rattle.keys.specs.InWords.{WordKind, WordOrdered}
 use Rattle.refusal.specs.declared.Refusal.{Refusal}
 use Rattle.leaves.specs.Asking.{granted}
 use Rattle.leaves.specs.Layout.{count_of, element, next_of, word}
-use Rattle.leaves.specs.Opening.{greatest, later, open_answer}
+use Rattle.leaves.specs.Opening.{greatest, open_answer}
 use Rattle.books.specs.Opens.{AllFine, Leads, UpTo, lone}
 use Rattle.books.specs.Bounds.{Bounded, Keys, bounds_of, value}
 use Rattle.books.proofs.BoundLaws.{Busy, all_busy, opening_bounds_hold}
@@ -15,7 +15,7 @@ use Rattle.books.proofs.OpensLaws.{opens_from}
 use Rattle.index.specs.declared.node.Entry.{Entry}
 use Rattle.index.specs.Nodes.{bounds, entry, numbers}
 use Rattle.index.specs.Search.{Above, Ascending, concat, front}
-use Rattle.index.specs.Meaning.{built, grouped, listed}
+use Rattle.index.specs.Meaning.{built, listed}
 use Rattle.index.specs.Shape.{singles}
 use Rattle.tree.specs.Shape.{blank, built_shape, found_shape, groups, open_shape, open_told, paired, shape_of, tops, top_at, top_told}
 use Rattle.tree.specs.Sound.{Fits, Sound}

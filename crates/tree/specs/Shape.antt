@@ -1,5 +1,5 @@
 -- A logbook's state by what its index means, and what opening makes of it.
-use Rattle.std.specs.Prelude.{ℕ, cond, ◌&&◌, List, [], ◌∷◌, map, length, Some, None, Ok, Err, Option, Result, nat_le}
+use Rattle.std.specs.Prelude.{ℕ, cond, ◌&&◌, List, [], ◌∷◌, map, length, Ok, Err, Option, Result, nat_le}
 use Rattle.refusal.specs.declared.Refusal.{Refusal}
 use Rattle.refusal.specs.declared.Refusal.TheVariants.{NoPower}
 use Rattle.keys.specs.InWords.{WordKind}

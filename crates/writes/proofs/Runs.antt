@@ -3,7 +3,7 @@ use Rattle.std.proofs.Common.{◌≡◌, ℕ, zero, suc, ◌+◌, ◌-◌, ◌*�
 use Rattle.std.proofs.lemmas.Bool.{cond_both, cases_lt, eq-eqb, ne_eqb, lt-leb}
 use Rattle.refusal.specs.declared.Refusal.TheVariants.{NoPower}
 use Rattle.memory.specs.Meaning.{Words, Power, endless, left, exhausted, spent, picked, store_answer, flush_answer}
-use Rattle.writes.specs.Writes.{Store, Op, store, Run, fall, tick, run, LineWrite, line_ops, all_ops, cost, applied, finished, Spared, Lined, Proper}
+use Rattle.writes.specs.Writes.{Store, Op, Run, fall, tick, run, LineWrite, line_ops, all_ops, cost, applied, finished, Spared, Lined, Proper}
 use Rattle.writes.specs.Laws.{Enough}
 use Rattle.writes.proofs.Mixes.{in_line, same_cond, picked_one, flush_settles, length_applied}
 

@@ -1,4 +1,4 @@
-use Rattle.std.proofs.Common.{length, get_or, sym, ap, ◌∙◌, arith}
+use Rattle.std.proofs.Common.{length, get_or, ap, ◌∙◌, arith}
 use Rattle.keys.specs.InWords.{in_words}
 use Rattle.index.specs.Nodes.{bounds}
 use Rattle.index.specs.Search.{search}

@@ -1,6 +1,6 @@
-use Rattle.std.proofs.Common.{◌<◌, ◌≤◌, length, ap, ◌∙◌, arith}
-use Rattle.index.specs.Nodes.{parted, renamed}
-use Rattle.index.specs.Search.{concat, last}
+use Rattle.std.proofs.Common.{◌<◌, ◌≤◌, length, ap, arith}
+use Rattle.index.specs.Nodes.{parted}
+use Rattle.index.specs.Search.{concat}
 use Rattle.index.specs.Places.{group_of}
 use Rattle.index.specs.Meaning.{grouped}
 use Rattle.index.proofs.ChangeLaws.{last_parted, length_parted, group_at, set_group, length_changed, groups_changed, each_changed, sound_changed}

@@ -1,6 +1,5 @@
-use Rattle.std.proofs.Common.{length, set, sym, ap, ◌∙◌, arith}
+use Rattle.std.proofs.Common.{length, sym, ap, ◌∙◌, arith}
 use Rattle.std.proofs.lemmas.Bool.{cond-true, cond-false, ltb-true}
-use Rattle.index.specs.Nodes.{parted}
 use Rattle.index.specs.Search.{concat}
 use Rattle.index.specs.Shape.{singles}
 use Rattle.index.specs.Meaning.{grouped}

@@ -1,4 +1,4 @@
-use Rattle.std.proofs.Common.{◌<◌, map, arith, length-set}
+use Rattle.std.proofs.Common.{arith, length-set}
 use Rattle.index.specs.Meaning.{grouped}
 use Rattle.index.specs.Shape.{table, singles}
 use Rattle.index.proofs.BuildLaws.{fill_turn, build_groups, build_counted, build_sound, build_full, build_small}

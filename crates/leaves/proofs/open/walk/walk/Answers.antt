@@ -1,6 +1,6 @@
 use Rattle.leaves.proofs.Kept.{live_same}
 use Rattle.keys.specs.InWords.{in_words}
-use Rattle.std.proofs.Common.{◌≡◌, Ok, Err, sym, ap, ◌∙◌, ⊎_elim, arith}
+use Rattle.std.proofs.Common.{◌≡◌, Err, sym, ap, ◌∙◌, ⊎_elim, arith}
 use Rattle.std.proofs.lemmas.Bool.{cond-true, cond-false, eq-eqb, ne_eqb}
 use Rattle.leaves.specs.Opening.{leaves_of}
 use Rattle.leaves.proofs.OpeningLaws.{ended_here, full_here, far_here, twice_here, fault_here, on_here, fault_is, on_is}

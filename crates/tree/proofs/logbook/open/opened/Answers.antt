@@ -1,8 +1,8 @@
-use Rattle.std.proofs.Common.{◌≡◌, ◌-◌, ◌<◌, length, arith, length-set, get_or, ap, ◌∙◌, map, take, sym, rules}
+use Rattle.std.proofs.Common.{◌≡◌, ◌-◌, length, arith, length-set, get_or, ap, ◌∙◌, take, sym, rules}
 use Rattle.std.proofs.lemmas.List.{length-map}
 use Rattle.index.specs.Meaning.{grouped, grouped_in}
 use Rattle.keys.specs.InWords.{in_words}
-use Rattle.tree.specs.Shape.{tops, top_at, built_shape}
+use Rattle.tree.specs.Shape.{tops, top_at}
 use Rattle.tree.proofs.OpenLaws.{built_is, entries_more, in_chain, top_is}
 use Rattle.tree.proofs.logbook.open.opened.Goals as goal
 
