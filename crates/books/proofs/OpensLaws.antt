@@ -201,12 +201,12 @@ module _ (o : WordKind) (m : List ℕ) where
       let (fits, h5) = past (ltb (length m) (8 + 72 * word m 3)) (plain WrongLength) _ ks h4 in
       let (least, most) = or_parts (ltb (word m 3) 2) _ leaves in
       let (rest, is, few, steps) = walk_steps o m (word m 3 - 1) [] None 0 (word m 2) ks h5 in
-      let at_least_lem = ltb-false (word m 3) 2 least in
+      let at_least = ltb-false (word m 3) 2 least in
       record {
         long = ltb-false (length m) 152 long;
         mark = eqb-true (word m 0) 30366 (not-false _ mark);
         code = eqb-true (word m 1) o.code (not-false _ code);
-        least = at_least_lem;
+        least = at_least;
         most = ltb-false 64 (word m 3) most;
         fits = ltb-false (length m) (8 + 72 * word m 3) fits;
         some = rw is (some_steps None (word m 2) rest steps);

@@ -5,7 +5,7 @@ use Rattle.std.proofs.lemmas.Bool.{cases_lt, cases_eq}
 use Rattle.memory.specs.Meaning.{Words, Power, endless, left, Settled, picked}
 use Rattle.writes.specs.Writes.{Store, Run, LineWrite, perform, cost, applied, finished, Lined, Proper, Spares, single}
 use Rattle.writes.specs.Laws.{Enough, Below, Cut, Alike, Whole, Short, PowerAlone, BrokenOff, change, New, Atomic, Commit, Kept, Observed}
-use Rattle.writes.proofs.Mixes.{same_cond, picked_one, get_d_picked, length_picked, mix_of, mix_each, length_mix, applied_spared, line_spared, some_stores, length_applied}
+use Rattle.writes.proofs.Mixes.{same_cond, picked_one, get_or_picked, length_picked, mix_of, mix_each, length_mix, applied_spared, line_spared, some_stores, length_applied}
 use Rattle.writes.proofs.Runs as runs
 use Rattle.writes.proofs.Runs.{mem, Stop}
 
@@ -27,7 +27,7 @@ inside : (size l : ℕ) (ss : List Store) (n : ℕ) (b : List ℕ) (t : Bool) (f
     ⊎ (get_or (picked f (applied b (take n ss)) (cond t (applied b (take n ss)) b)) i 0 ≡ get_or (applied b ss) i 0)
 inside size l ss n b true f h i = rw picked_one (some_stores size l ss n b h i)
 inside size l ss n b false f h i =
-    rw (get_d_picked f (applied b (take n ss)) b (length_applied b (take n ss)) i) (at (f i))
+    rw (get_or_picked f (applied b (take n ss)) b (length_applied b (take n ss)) i) (at (f i))
   where
     at : (c : Bool) → (cond c (get_or (applied b (take n ss)) i 0) (get_or b i 0) ≡ get_or b i 0) ⊎ (cond c (get_or (applied b (take n ss)) i 0) (get_or b i 0) ≡ get_or (applied b ss) i 0)
     at true = some_stores size l ss n b h i

@@ -21,8 +21,8 @@ same_cond false x = refl
 pub picked_one : (f : ℕ → Bool) (xs : List ℕ) → picked f xs xs ≡ xs
 picked_one f xs = sym (picked_same f xs)
 
-pub get_d_picked : (f : ℕ → Bool) (xs ys : List ℕ) → length xs ≡ length ys → (i : ℕ) → get_or (picked f xs ys) i 0 ≡ cond (f i) (get_or xs i 0) (get_or ys i 0)
-get_d_picked f xs ys e i =
+pub get_or_picked : (f : ℕ → Bool) (xs ys : List ℕ) → length xs ≡ length ys → (i : ℕ) → get_or (picked f xs ys) i 0 ≡ cond (f i) (get_or xs i 0) (get_or ys i 0)
+get_or_picked f xs ys e i =
     ⊎_elim
     (λ inside. tabled_at (length xs) _ i inside)
     (λ past.
@@ -36,7 +36,7 @@ pub mix_of : (new old xs : List ℕ) → length new ≡ length old → length xs
     → ((i : ℕ) → (get_or xs i 0 ≡ get_or old i 0) ⊎ (get_or xs i 0 ≡ get_or new i 0))
     → xs ≡ picked (λ i. eqb (get_or xs i 0) (get_or new i 0)) new old
 mix_of new old xs n e each =
-    ext_get_or 0 _ _ (e ∙ sym (length_picked _ new old ∙ n)) (λ i _. at i (each i) (eqb (get_or xs i 0) (get_or new i 0)) refl ∙ sym (get_d_picked _ new old n i))
+    ext_get_or 0 _ _ (e ∙ sym (length_picked _ new old ∙ n)) (λ i _. at i (each i) (eqb (get_or xs i 0) (get_or new i 0)) refl ∙ sym (get_or_picked _ new old n i))
   where
     at : (i : ℕ) → (get_or xs i 0 ≡ get_or old i 0) ⊎ (get_or xs i 0 ≡ get_or new i 0) → (b : Bool) → eqb (get_or xs i 0) (get_or new i 0) ≡ b
         → get_or xs i 0 ≡ cond b (get_or new i 0) (get_or old i 0)
@@ -45,7 +45,7 @@ mix_of new old xs n e each =
 
 -- Each word of a mix stands as in one of the two lists.
 pub mix_each : (new old words : List ℕ) → length new ≡ length old → Mix new old words → (i : ℕ) → (get_or words i 0 ≡ get_or old i 0) ⊎ (get_or words i 0 ≡ get_or new i 0)
-mix_each new old words e c i = rw (c.1, get_d_picked c.0 new old e i) (at (c.0 i))
+mix_each new old words e c i = rw (c.1, get_or_picked c.0 new old e i) (at (c.0 i))
   where
     at : (b : Bool) → (cond b (get_or new i 0) (get_or old i 0) ≡ get_or old i 0) ⊎ (cond b (get_or new i 0) (get_or old i 0) ≡ get_or new i 0)
     at true = inr refl
@@ -85,7 +85,7 @@ line_spared size l (s ∷ ss) i h n = ((λ e. n (ap (λ k. k / 8) e ∙ h.1)), l
 pub flush_settles : (size l : ℕ) (w : List ℕ) (ss : List Store) → Lined size l ss → picked (in_line l) (applied w ss) w ≡ applied w ss
 flush_settles size l w ss h =
     ext_get_or 0 _ _ (length_picked (in_line l) (applied w ss) w)
-    (λ i _. get_d_picked (in_line l) (applied w ss) w (length_applied w ss) i ∙ at i (in_line l i) refl)
+    (λ i _. get_or_picked (in_line l) (applied w ss) w (length_applied w ss) i ∙ at i (in_line l i) refl)
   where
     at : (i : ℕ) (b : Bool) → in_line l i ≡ b → cond b (get_or (applied w ss) i 0) (get_or w i 0) ≡ get_or (applied w ss) i 0
     at i true e = refl

@@ -3,7 +3,7 @@ ghost use Rattle.std.specs.Prelude.{◌≡◌, ℕ, ◌<◌, ◌≤◌, List};
 ghost use Rattle.keys.specs.InWords.{in_words};
 ghost use Rattle.leaves.specs.Layout.{Within, element as element_at, count_of};
 ghost use Rattle.leaves.specs.Pairs.{pairs};
-ghost use Rattle.leaves.specs.Opening.{sign_fits, after as after_bound, good as good_element, first_bad, leaf_fault, later as LaterOf, greatest as greatest_of};
+ghost use Rattle.leaves.specs.Opening.{sign_fits, after as after_bound, good as good_element, first_bad, leaf_fault, later as later_of, greatest as greatest_of};
 
 use super::Element;
 use crate::leaf::read::{element, find, word_at};
@@ -88,7 +88,7 @@ pub(crate) fn fault<K: Key, M: Memory>(
 }
 
 fn later<K: Key>(key: (u64, u64), best: Option<(u64, u64)>) -> (u64, u64)
-    ensures { result ≡ LaterOf (in_words K.Key.kind) key best }
+    ensures { result ≡ later_of (in_words K.Key.kind) key best }
 {
     match best {
         None => key,
