@@ -41,6 +41,7 @@ impl<K: Key, M: Memory> Logbook<K, M> {
     pub fn find(&mut self, key: &K) -> Result<u64, Refusal>
         ensures same { M.Memory.meaning self.new.memory ≡ M.Memory.meaning self.old.memory }
         ensures state { self.new.state ≡ self.old.state }
+        ensures taken { self.new.taken ≡ self.old.taken }
         ensures answer { Sound (in_words K.Key.kind) (M.Memory.meaning self.old.memory).live self.old.state → result ≡ find_answer (in_words K.Key.kind) (M.Memory.meaning self.old.memory).live self.old.state (K.Key.kind.form key.now) }
     {
         let words = key.pack();

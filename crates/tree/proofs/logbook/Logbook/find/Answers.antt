@@ -15,6 +15,7 @@ returns-in_err-reading g c =
     record {
       same = search rules;
       state = refl;
+      taken = refl;
       answer = λ h.
           let at = c.in_ok-leaf.ensures (rising o m book.state h) in
           never_refused o laws m book.state c.pack-words.result c.in_ok-leaf.leaf h at (λ n. lookup c.pack-words.result (pairs o m c.in_ok-leaf.leaf n)) c.in_err-reading.field-0.0 c.in_err-reading.ensures.value;
@@ -29,6 +30,7 @@ returns-in-Some g c =
     record {
       same = search rules;
       state = refl;
+      taken = refl;
       answer = λ h.
           let at = c.in_ok-leaf.ensures (rising o m book.state h) in
           found_here o laws m book.state c.pack-words.result c.in_ok-leaf.leaf h at (Some c.in-Some.reading) (ap Ok (sym c.in-Some.is) ∙ c.in_ok-reading.ensures.value) ∙ ap (find_answer o m book.state) c.pack-words.ensures;
@@ -43,6 +45,7 @@ returns-in-None g c =
     record {
       same = search rules;
       state = refl;
+      taken = refl;
       answer = λ h.
           let at = c.in_ok-leaf.ensures (rising o m book.state h) in
           found_here o laws m book.state c.pack-words.result c.in_ok-leaf.leaf h at (None) (ap Ok (sym c.in-None.is) ∙ c.in_ok-reading.ensures.value) ∙ ap (find_answer o m book.state) c.pack-words.ensures;

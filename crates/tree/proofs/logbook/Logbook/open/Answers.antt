@@ -24,5 +24,6 @@ returns-in-Ok g c =
       same = same;
       answer = told_open o laws m ks bs found.value refl book.state c.in_default.not-Dark;
       state = shaped_open o laws m ks bs found.value refl book.state r c.in_default.not-Dark shape;
+      taken = refl;
       sound = subst (λ (w : Words). Sound o w.live r) (sym same) (sound_open o laws m ks bs found.value refl r shape);
     }
