@@ -1,0 +1,77 @@
+// What a fixed list does.
+ghost use Rattle.std.specs.Prelude.{◌≡◌, ◌≤◌, ◌<◌, [], ◌∷◌, length, slice_get, slice_set};
+ghost use Rattle.fixed_vec.specs.Items.{items, joined, room};
+
+use crate::FixedVec;
+
+// There is no room.
+#[derive(Clone, Copy, PartialEq, Eq, Debug)]
+pub struct Full;
+
+impl<T: Copy, const N: usize> FixedVec<T, N> {
+    // No items; every slot holds the blank.
+    pub fn new(blank: T) -> Self
+        ensures { items result ≡ [] }
+    {
+        FixedVec {
+            slots: [blank; N],
+            len: 0,
+        }
+    }
+
+    pub fn len(&self) -> usize
+        ensures value { result ≡ length (items self.now) }
+        ensures fits { result ≤ N }
+    {
+        self.as_slice().len()
+    }
+
+    pub fn as_slice(&self) -> &[T]
+        ensures value { result.now ≡ items self.now }
+        ensures fits { length result.now ≤ N }
+    {
+        let slots = &self.slots[..];
+        &slots[..self.len]
+    }
+
+    // One item more; refused where there is no room.
+    pub fn push(&mut self, item: T) -> Result<(), Full>
+        ensures answer { result ≡ room N (items self.old) (item ∷ []) }
+        ensures list { items self.new ≡ joined N (items self.old) (item ∷ []) }
+    {
+        if self.len >= N {
+            return Err(Full);
+        }
+        self.slots[self.len] = item;
+        self.len += 1;
+        Ok(())
+    }
+
+    // Many items more; refused where there is no room for all.
+    pub fn extend_from_slice(&mut self, more: &[T]) -> Result<(), Full>
+        ensures answer { result ≡ room N (items self.old) more.now }
+        ensures list { items self.new ≡ joined N (items self.old) more.now }
+    {
+        if more.len() > N - self.len {
+            return Err(Full);
+        }
+        let end = self.len + more.len();
+        let slots = &mut self.slots[..];
+        slots[self.len..end].copy_from_slice(more);
+        self.len = end;
+        Ok(())
+    }
+
+    // Another item in the place of one, which is answered; nothing where there is none.
+    pub fn replace(&mut self, at: usize, item: T) -> Option<T>
+        ensures answer { result ≡ slice_get (items self.old) at }
+        ensures list { items self.new ≡ slice_set (items self.old) at item }
+    {
+        if at >= self.len {
+            return None;
+        }
+        let old = self.slots[at];
+        self.slots[at] = item;
+        Some(old)
+    }
+}
