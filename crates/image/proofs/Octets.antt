@@ -1,10 +1,11 @@
 -- One word and its eight octets.
-use Rattle.std.proofs.Common.{◌≡◌, ℕ, ◌+◌, ◌/◌, ◌%◌, ◌^◌, ◌<◌, ◌≤◌, List, [], ◌∷◌, map, length, get_or, take, drop, ◌∙◌, arith}
+use Rattle.std.proofs.Common.{◌≡◌, ℕ, zero, suc, ◌+◌, ◌*◌, ◌/◌, ◌%◌, ◌^◌, ◌<◌, ◌≤◌, List, [], ◌∷◌, map, length, get_or, take, drop, refl, ◌∙◌, arith}
 use Rattle.std.specs.List.{range_with_len}
+use Rattle.std.specs.Simd.{first_chunks}
 use Rattle.std.specs.Int.Digits.{number_from_digits}
-use Rattle.std.proofs.lemmas.List.{get_or-take, get_or-drop, length-drop, length-take-le}
+use Rattle.std.proofs.lemmas.List.{drop-drop, get_or-take, get_or-drop, length-drop, length-take-le}
 use Rattle.std.proofs.lemmas.List.FromFn.{fill_by_all}
-use Rattle.image.specs.Image.{octets_of}
+use Rattle.image.specs.Image.{octets_at, octets_of}
 
 -- A word below 2 ^ 64 is the number that its octets write.
 pub word_back : (w : ℕ) → w < 2 ^ 64 → number_from_digits 256 (octets_of w) ≡ w
@@ -32,3 +33,11 @@ eight_from xs s h =
     fill_by_all (λ k. get_or xs (s + k) 0) (take 8 (drop s xs)) 8 0
     (length-take-le 8 (drop s xs) (simp length-drop (omega arith)))
     (λ k lt. get_or-take 8 (drop s xs) k 0 lt ∙ get_or-drop s xs k 0)
+
+-- Group k of eight octets.
+pub group_at : (octets : List ℕ) (n k : ℕ) → k < n → get_or (first_chunks 8 n octets) k [] ≡ octets_at octets k
+group_at octets zero k h = absurd (omega arith)
+group_at octets (suc n) zero h = refl
+group_at octets (suc n) (suc k) h =
+    let e : 8 * suc k ≡ 8 + 8 * k = omega arith in
+    rw (e, ← drop-drop (8 * k) 8 octets) (group_at (drop 8 octets) n k (omega arith))

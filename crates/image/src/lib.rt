@@ -29,21 +29,10 @@ fn write_word(octets: &mut [u8], at: usize, word: u64)
 }
 
 // The word that eight octets write.
-fn read_word(octets: &[u8], at: usize) -> u64
-    requires { at < length octets.now / 8 }
-    ensures { result ≡ number_from_digits 256 (octets_at octets.now at) }
+fn word_of(octets: &[u8; 8]) -> u64
+    ensures { result ≡ number_from_digits 256 octets.now }
 {
-    let start = 8 * at;
-    u64::from_be_bytes([
-        octets[start],
-        octets[start + 1],
-        octets[start + 2],
-        octets[start + 3],
-        octets[start + 4],
-        octets[start + 5],
-        octets[start + 6],
-        octets[start + 7],
-    ])
+    u64::from_be_bytes(*octets)
 }
 
 // Writes the image of a memory's live words, by reads alone: no step is spent. Refused unless there are eight octets
@@ -70,8 +59,9 @@ pub fn read(octets: &[u8], words: &mut [u64]) -> Result<(), Refusal>
     ensures image { result ≡ Ok tt → image words.new ≡ octets.now }
 {
     check_length(octets.len(), words.len())?;
-    for i in 0..words.len() {
-        words[i] = read_word(octets, i);
+    let (groups, _) = octets.as_chunks::<8>();
+    for (i, group) in groups.iter().enumerate() {
+        words[i] = word_of(group);
     }
     Ok(())
 }

@@ -1,4 +1,3 @@
 pub mod WordLaws
-pub mod Octets
 pub mod CalendarLaws
 pub mod CalendarOfStamps

@@ -40,7 +40,7 @@ pub trait Key: Copy {
             (Ok(x), Ok(y)) => x.before(&y),
             (Ok(_), Err(_)) => true,
             (Err(_), Ok(_)) => false,
-            (Err(_), Err(_)) => a.0 < b.0 || a.0 == b.0 && a.1 < b.1,
+            (Err(_), Err(_)) => a < b,
         }
     }
 
@@ -49,17 +49,22 @@ pub trait Key: Copy {
     ghost formed: { Formed kind };
 }
 
+// What is said of two things by whether the first stands before the second, and the second before the first.
+fn ordering(first: bool, second: bool) -> Ordering
+    ensures { MatchOrdering result (first ≡ true) ((first ≡ false) × (second ≡ false)) (second ≡ true) }
+{
+    match (first, second) {
+        (true, _) => Ordering::Less,
+        (false, true) => Ordering::Greater,
+        (false, false) => Ordering::Equal,
+    }
+}
+
 // Which of two keys stands before the other, if they are not one key.
 pub fn compare<K: Key>(a: &K, b: &K) -> Ordering
     ensures { MatchOrdering result (K.kind.before a.now b.now ≡ true) (a.now ≡ b.now) (K.kind.before b.now a.now ≡ true) }
 {
-    if a.before(b) {
-        Ordering::Less
-    } else if b.before(a) {
-        Ordering::Greater
-    } else {
-        Ordering::Equal
-    }
+    ordering(a.before(b), b.before(a))
 }
 
 // The later of two pairs of words, where a pair that is no key counts as later than every key.
@@ -74,11 +79,7 @@ pub fn greater<K: Key>(a: (u64, u64), b: (u64, u64)) -> (u64, u64)
 pub fn compare_words<K: Key>(a: (u64, u64), b: (u64, u64)) -> Ordering
     ensures { MatchOrdering result ((in_words K.kind).before a b ≡ true) (a ≡ b) ((in_words K.kind).before b a ≡ true) }
 {
-    match (K::pair_before(a, b), K::pair_before(b, a)) {
-        (true, _) => Ordering::Less,
-        (false, true) => Ordering::Greater,
-        (false, false) => Ordering::Equal,
-    }
+    ordering(K::pair_before(a, b), K::pair_before(b, a))
 }
 
 // The order of all pairs of words has the laws of an order, whatever the kind.

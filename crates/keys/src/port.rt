@@ -4,7 +4,7 @@ ghost use Rattle.keys.specs.Identities.{valid_port};
 
 pub mod make;
 
-#[derive(Clone, Copy)]
+#[derive(Clone, Copy, PartialEq, Eq, PartialOrd, Ord)]
 pub struct Port {
     identity: u64,
     number: u16,
@@ -21,6 +21,6 @@ impl Port {
     pub fn number(&self) -> u64
         ensures { result ≡ self.now.number }
     {
-        self.number as u64
+        u64::from(self.number)
     }
 }

@@ -4,7 +4,7 @@ ghost use Rattle.keys.specs.Dates.{valid_stamp};
 
 pub mod make;
 
-#[derive(Clone, Copy)]
+#[derive(Clone, Copy, PartialEq, Eq, PartialOrd, Ord)]
 pub struct Stamp {
     year: u16,
     day: u16,
@@ -16,18 +16,18 @@ impl Stamp {
     pub fn year(&self) -> u64
         ensures { result ≡ self.now.year }
     {
-        self.year as u64
+        u64::from(self.year)
     }
 
     pub fn day(&self) -> u64
         ensures { result ≡ self.now.day }
     {
-        self.day as u64
+        u64::from(self.day)
     }
 
     pub fn millisecond(&self) -> u64
         ensures { result ≡ self.now.millisecond }
     {
-        self.millisecond as u64
+        u64::from(self.millisecond)
     }
 }

@@ -1,8 +1,8 @@
 -- Stores and flushes of the buffered memory, by its two runs.
-use Rattle.std.proofs.Common.{◌≡◌, ℕ, ◌+◌, ◌-◌, ◌*◌, ◌/◌, ◌<◌, ◌≤◌, min, true, false, cond, ◌&&◌, eqb, ltb, leb, List, [], length, get_or, take, drop, set, is_ok, sym, refl, ◌∙◌, arith, drop-set-lt, rules}
+use Rattle.std.proofs.Common.{◌≡◌, ◌≢◌, ℕ, ◌+◌, ◌-◌, ◌*◌, ◌/◌, ◌%◌, ◌<◌, ◌≤◌, min, true, false, cond, ◌&&◌, eqb, ltb, leb, List, [], length, get_or, take, drop, set, is_ok, sym, refl, ◌∙◌, ⊎_elim, arith, drop-set-lt, rules}
 use lib.Seq.{take-set-lt}
-use Rattle.std.proofs.lemmas.List.{places, ext_get_or, length-take, get_or-take, length-drop, get_or-drop, length-set}
-use Rattle.std.proofs.lemmas.Bool.{cond-true, lt-ltb}
+use Rattle.std.proofs.lemmas.List.{places, ext_get_or, length-take, get_or-take, length-drop, get_or-drop, length-set, get_or-set_same, get_or-set_other}
+use Rattle.std.proofs.lemmas.Bool.{cases_eq, cond-true, lt-ltb}
 use Rattle.std.proofs.lemmas.Bool.Decides.{nat_tests}
 use Rattle.memory.specs.Meaning.{picked, store_answer, after_store, flush_answer, after_flush, odd_at, settle_answer, after_settle, Freely}
 use Rattle.makes.specs.Makes.{shared, unshared, buffered_words, through_words}
@@ -29,6 +29,37 @@ flush_after a b b' n l i e end g at =
     (λ k h.
     let below : k < shared a b = omega (arith, length-take (shared a b) a) in
     simp (get_or-take, ← in_line k l (shared a b) i below end) (at k)))))
+
+-- A run whose words below i are as g says, and the rest as they were: one word more stays as it is, or is written.
+abbrev pub as_said : (ℕ → ℕ) → (ℕ → ℕ) → ℕ → List ℕ → Type 0
+as_said g old i x = (k : ℕ) → get_or x k 0 ≡ cond (ltb k i) (g k) (old k)
+
+pub stays_more : (g old : ℕ → ℕ) (i : ℕ) (x : List ℕ) → g i ≡ old i → as_said g old i x → as_said g old (i + 1) x
+stays_more g old i x same h k =
+    ⊎_elim (λ e. let at = h i in rw e (grind (arith, nat_tests)))
+    (λ ne. let apart : ltb k (i + 1) ≡ ltb k i = grind (arith, nat_tests) in rw apart (h k))
+    (cases_eq k i)
+
+pub written_more : (g old : ℕ → ℕ) (i w : ℕ) (x : List ℕ) → i < length x → w ≡ g i → as_said g old i x → as_said g old (i + 1) (set x i w)
+written_more g old i w x within is h k =
+    ⊎_elim (λ e. let put = get_or-set_same x i w 0 within in rw e (grind (arith, nat_tests)))
+    (λ ne. let apart : ltb k (i + 1) ≡ ltb k i = grind (arith, nat_tests) in rw (apart, get_or-set_other x i k w 0 ne) (h k))
+    (cases_eq k i)
+
+-- One choice more, of a word that either run takes from the other.
+module _ (a b choice : List ℕ) (i w : ℕ) (same : w ≡ get_or choice i 0) where
+  abbrev pub chosen_at : ℕ → ℕ
+  chosen_at k = cond (odd_at choice k) (get_or a k 0) (get_or b k 0)
+
+  pub odd : w % 2 ≡ 1 → chosen_at i ≡ get_or a i 0
+  odd h = let e : odd_at choice i ≡ true = grind (arith, nat_tests) in rw e refl
+
+  pub even : w % 2 ≢ 1 → chosen_at i ≡ get_or b i 0
+  even h = let e : odd_at choice i ≡ false = grind (arith, nat_tests) in rw e refl
+
+-- A word that is as it was.
+pub still : (g old : ℕ → ℕ) (i : ℕ) (x : List ℕ) → as_said g old i x → get_or x i 0 ≡ old i
+still g old i x h = let at = h i in grind (arith, nat_tests)
 
 kept : (a b x : List ℕ) (choice : List ℕ) (i : ℕ) (old : ℕ → ℕ) → shared a b ≤ length x → shared a b ≤ i
     → ((k : ℕ) → get_or x k 0 ≡ cond (ltb k i) (cond (odd_at choice k) (get_or a k 0) (get_or b k 0)) (old k))

@@ -116,6 +116,7 @@ impl Memory for Buffered<'_> {
             return Err(Refusal::NoPower);
         }
         let start = 8 * line;
+        // Counted: neither run can be lent to a library call while the other is read.
         for i in start..size.min(start + 8) {
             self.firm[i] = self.live[i];
         }
@@ -148,8 +149,8 @@ impl Settle for Buffered<'_> {
         if choice.len() < size {
             return Err(Refusal::WrongLength);
         }
-        for i in 0..size {
-            if choice[i] % 2 == 1 {
+        for (i, word) in choice[..size].iter().enumerate() {
+            if word % 2 == 1 {
                 self.firm[i] = self.live[i];
             } else {
                 self.live[i] = self.firm[i];

@@ -1,8 +1,11 @@
 //! Why a call is refused: one list of plain cases for the whole logbook, each with the number by which it is told.
 #![tactic(auto)]
 
-ghost use Rattle.std.specs.Prelude.{◌≡◌};
+ghost use Rattle.std.specs.Prelude.{◌≡◌, Some};
+ghost use Rattle.std.specs.Fmt.{decimal, styled_decimal};
 ghost use Rattle.refusal.specs.Numbers.{number_of};
+
+use std::fmt;
 
 #[derive(Clone, Copy, PartialEq, Eq, Debug)]
 pub enum Refusal {
@@ -42,5 +45,16 @@ impl Refusal {
         ensures { result ≡ number_of self }
     {
         self as u8
+    }
+}
+
+// A refusal prints as its number.
+impl fmt::Display for Refusal {
+    ghost output = { λ r. Some (decimal (number_of r)) };
+
+    ghost styled_output = { λ r s. Some (styled_decimal s (number_of r)) };
+
+    fn fmt<W: fmt::Write>(&self, f: &mut fmt::Formatter<W>) -> fmt::Result {
+        self.number().fmt(f)
     }
 }

@@ -1,12 +1,12 @@
 -- Runs one after the other with the steps counted, and what is left of line writes after some of their steps.
-use Rattle.std.proofs.Common.{◌≡◌, ℕ, suc, ◌+◌, ◌-◌, ◌*◌, ◌/◌, ◌<◌, ◌≤◌, min, List, [], ◌∷◌, ◌++◌, length, get_or, take, drop, is_ok, Ok, Err, sym, refl, ap, ◌∙◌, ⊎_elim, append_assoc, suc-add, zero-add, arith}
-use Rattle.std.proofs.lemmas.List.{append-nil, drop_more, drop_all, drop-drop, length-drop, length-take, take_all}
+use Rattle.std.proofs.Common.{◌≡◌, ℕ, suc, ◌+◌, ◌/◌, ◌<◌, ◌≤◌, min, List, [], ◌∷◌, ◌++◌, length, get_or, take, drop, is_ok, Ok, Err, sym, refl, ap, ◌∙◌, ⊎_elim, append_assoc, suc-add, zero-add, arith}
+use Rattle.std.proofs.lemmas.List.{append-nil, drop_more, drop_all, drop_at, length-append, nil_from_length, take_all, take_at}
 use Rattle.std.proofs.lemmas.Bool.{cases_lt, cond-false}
 use Rattle.refusal.specs.declared.Refusal.{Refusal}
 use Rattle.memory.specs.Meaning.{Words, store_answer, stored, after_store, flush_answer, flushed, after_flush}
 use Rattle.memory.proofs.Facts.{after_granted_store, after_granted_flush}
 use Rattle.writes.specs.Laws.{InTurn}
-use Rattle.writes.specs.Writes.{Answer, Store, Op, Run, LineWrite, all_ops, onward, outcome, answer, did, next, tick, run, perform, line_ops, row_stores, row, rows}
+use Rattle.writes.specs.Writes.{Answer, Store, Op, Run, LineWrite, all_ops, onward, outcome, answer, did, next, tick, run, perform, line_ops, lines_for, row_stores, row, rows}
 
 pub after_refused_store : (m : Words) (i w : ℕ) (x : Refusal) → Err x ≡ store_answer m i → after_store m i w ≡ m
 after_refused_store m i w x e = cond-false (is_ok (store_answer m i)) (stored m i w) m (sym (ap is_ok e))
@@ -110,29 +110,43 @@ module _ (m : Words) (j : ℕ) (ws : List LineWrite) (all : Run) (inv : onward j
   unfolding run perform
   lines_end e = let z : j + 0 ≡ j = omega arith in cc
 
-take_least : (n : ℕ) (xs : List ℕ) → take (min (length xs) n) xs ≡ take n xs
-take_least n xs =
-    ⊎_elim
-    (λ few. let e : min (length xs) n ≡ length xs = omega arith in rw e (take_all (length xs) xs (omega arith) ∙ sym (take_all n xs (omega arith))))
-    (λ many. let e : min (length xs) n ≡ n = omega arith in rw e)
-    (cases_lt (length xs) n)
+-- What is left of consecutive words after their first eight, or fewer at the end, and what is left of their line writes.
+module _ (at next : ℕ) (ws line rest : List ℕ) (parts : ws ≡ line ++ rest) (long : length line ≡ min 8 (length ws)) (some : 0 < length ws) where
+  sum : length ws ≡ length line + length rest
+  sum = ap length parts ∙ length-append line rest
 
--- The next of the rows that are left.
-pub rows_more : (k i first at start end : ℕ) (ws : List ℕ) → i < k → at ≡ first + 8 * i → start ≡ 8 * i → end ≡ start + min (length ws - start) 8
-    → rows (k - i) (first + 8 * i) (drop (8 * i) ws)
-    ≡ row at (take (end - start) (drop start ws)) ∷ rows (k - (i + 1)) (first + 8 * (i + 1)) (drop (8 * (i + 1)) ws)
-rows_more k i first at start end ws h a s e =
-    let x : k - i ≡ suc (k - (i + 1)) = omega arith in
-    let y : (first + 8 * i) + 8 ≡ first + 8 * (i + 1) = omega arith in
-    let z : 8 * i + 8 ≡ 8 * (i + 1) = omega arith in
-    let long = length-drop (8 * i) ws in
-    let some : end - start ≡ min (length (drop (8 * i) ws)) 8 = omega arith in
-    let part : take (min (length (drop (8 * i) ws)) 8) (drop (8 * i) ws) ≡ take 8 (drop (8 * i) ws) = take_least 8 (drop (8 * i) ws) in
-    let d = drop-drop 8 (8 * i) ws in
-    cc
+  less : (length ws ≡ length line + length rest) × (lines_for (length ws) ≡ suc (lines_for (length rest))) × (length line ≤ 8) × (0 < length rest → length line ≡ 8)
+  less = let s = sum in (s, omega arith, omega arith, λ h. omega arith)
 
-pub part_length : (start end : ℕ) (ws : List ℕ) → end ≡ start + min (length ws - start) 8 → length (take (end - start) (drop start ws)) ≡ min (length ws - start) 8
-part_length start end ws e = simp (length-take, length-drop) (omega arith)
+  front : take 8 ws ≡ line
+  front =
+      ⊎_elim
+      (λ few. let none : rest ≡ [] = nil_from_length rest (let s = sum in omega arith) in rw (parts, none, append-nil) (take_all 8 line (omega arith)))
+      (λ many. rw parts (take_at line rest 8 (omega arith)))
+      (cases_lt (length ws) 8)
 
-pub rows_none : (k i first : ℕ) (ws : List ℕ) → k ≤ i → rows (k - i) first ws ≡ []
-rows_none k i first ws h = let a : k - i ≡ 0 = omega arith in cc
+  back : drop 8 ws ≡ rest
+  back =
+      ⊎_elim
+      (λ few. let none : rest ≡ [] = nil_from_length rest (let s = sum in omega arith) in rw (parts, none, append-nil) (drop_all 8 line (omega arith)))
+      (λ many. rw parts (drop_at line rest 8 (omega arith)))
+      (cases_lt (length ws) 8)
+
+pub line_less : (ws line rest : List ℕ) → ws ≡ line ++ rest → length line ≡ min 8 (length ws) → 0 < length ws
+    → (length ws ≡ length line + length rest) × (lines_for (length ws) ≡ suc (lines_for (length rest))) × (length line ≤ 8) × (0 < length rest → length line ≡ 8)
+line_less ws line rest parts long some = less 0 0 ws line rest parts long some
+
+-- No word, no line write.
+pub rows_over : (at : ℕ) (ws : List ℕ) → length ws ≡ 0 → rows (lines_for (length ws)) at ws ≡ []
+rows_over at ws none = let z : lines_for (length ws) ≡ 0 = omega arith in rw z refl
+
+-- The next line write.
+pub rows_turn : (at next : ℕ) (ws line rest : List ℕ) → ws ≡ line ++ rest → length line ≡ min 8 (length ws) → 0 < length ws → (0 < length rest → next ≡ at + 8)
+    → rows (lines_for (length ws)) at ws ≡ row at line ∷ rows (lines_for (length rest)) next rest
+rows_turn at next ws line rest parts long some on =
+    let one = line_less ws line rest parts long some in
+    let f = front at next ws line rest parts long some in
+    let b = back at next ws line rest parts long some in
+    let after : rows (lines_for (length rest)) (at + 8) rest ≡ rows (lines_for (length rest)) next rest =
+    ⊎_elim (λ none. rw (rows_over (at + 8) rest (omega arith), rows_over next rest (omega arith)) refl) (λ more. rw (on (omega arith))) (cases_lt (length rest) 1) in
+    rw (one.1, f, b, after) refl

@@ -38,15 +38,10 @@ pub fn write_lines<M: Memory>(
     ensures done { first + length words.now < 2 ^ 64 → steps.old + length words.now + lines_for (length words.now) < 2 ^ 64 → outcome (M.Memory.meaning memory.new) steps.new result ≡ onward steps.old (perform (M.Memory.meaning memory.old) (rows (lines_for (length words.now)) first words.now)) }
     ensures few { steps.new ≤ steps.old + length words.now + lines_for (length words.now) }
 {
-    for i in 0..words.len().div_ceil(8) {
-        let start = 8 * i;
-        let end = start + (words.len() - start).min(8);
-        write_row(
-            memory,
-            steps,
-            first.saturating_add(start),
-            &words[start..end],
-        )?;
+    let mut at = first;
+    for line in words.chunks(8) {
+        write_row(memory, steps, at, line)?;
+        at = at.saturating_add(8);
     }
     Ok(())
 }

@@ -1,10 +1,11 @@
-use Rattle.std.proofs.Common.{◌≡◌, ◌*◌, ◌/◌, length, ap, ◌∙◌, arith}
+use Rattle.std.proofs.Common.{◌≡◌, ◌*◌, ◌/◌, ◌<◌, length, ap, ◌∙◌, arith}
 use Rattle.std.specs.Int.Digits.{number_from_digits}
 use Rattle.std.proofs.lemmas.List.FromFn.{fill_by_all}
 use Rattle.std.proofs.lemmas.List.Edits.{fill_by_more}
 use Rattle.std.proofs.lemmas.Result.{err_from_is_err_and}
 use Rattle.image.specs.Image.{image, octets_at, words_of}
 use Rattle.image.proofs.Images.{image_of_words}
+use Rattle.image.proofs.Octets.{group_at}
 use Rattle.image.proofs.Lengths.{eight_each, granted, refused}
 use Rattle.image.proofs.read.Goals as goal
 
@@ -20,8 +21,12 @@ returns-in_err-check_length c =
 
 pub loop-i-preserved : goal.loop-i-preserved
 loop-i-preserved c =
-    rw c.read_word.ensures
-    (fill_by_more (λ k. number_from_digits 256 (octets_at c.args.octets.now k)) c.loop-i.words c.loop-i.i 0 (omega arith) c.loop-i.invariant)
+    let n = length c.args.octets.now / 8 in
+    let each : length c.args.octets.now ≡ 8 * length c.args.words.now = eight_each _ _ c.in_ok-check_length.ensures in
+    let below : c.loop-i.i < n = omega (arith, c.loop-i-test.true, c.as_chunks.ensures.front_len) in
+    let word : c.word_of.result ≡ number_from_digits 256 (octets_at c.args.octets.now c.loop-i.i) =
+    (rw c.as_chunks.ensures.front at c.word_of.ensures) ∙ ap (number_from_digits 256) (group_at c.args.octets.now n c.loop-i.i below) in
+    rw word (fill_by_more (λ k. number_from_digits 256 (octets_at c.args.octets.now k)) c.loop-i.words c.loop-i.i 0 (omega (arith, each, below, c.loop-i.auto.words)) c.loop-i.invariant)
 
 pub returns : goal.returns
 returns c =

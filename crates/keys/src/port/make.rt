@@ -15,13 +15,6 @@ fn is_port(identity: u64, number: u64) -> bool
     identity < u64::MAX && number >= 1 && number <= 65_534
 }
 
-// The number that the octets of an identity write, the most significant first.
-fn identity_of(octets: [u8; 8]) -> u64
-    ensures { result ≡ number_in_base 256 octets }
-{
-    u64::from_be_bytes(octets)
-}
-
 impl Port {
     // The port of a clock's identity and a port number, whatever the two numbers are.
     pub fn new(identity: u64, number: u64) -> Result<Self, Refusal>
@@ -40,7 +33,7 @@ impl Port {
     pub fn from_octets(octets: [u8; 8], number: u64) -> Result<Self, Refusal>
         ensures { result ≡ port_of (number_in_base 256 octets) number }
     {
-        Port::new(identity_of(octets), number)
+        Port::new(u64::from_be_bytes(octets), number)
     }
 }
 
@@ -64,10 +57,6 @@ impl Key for Port {
     }
 
     fn before(&self, other: &Port) -> bool {
-        if self.identity != other.identity {
-            self.identity < other.identity
-        } else {
-            self.number < other.number
-        }
+        self < other
     }
 }

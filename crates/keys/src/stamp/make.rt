@@ -52,12 +52,6 @@ impl Key for Stamp {
     }
 
     fn before(&self, other: &Stamp) -> bool {
-        if self.year != other.year {
-            self.year < other.year
-        } else if self.day != other.day {
-            self.day < other.day
-        } else {
-            self.millisecond < other.millisecond
-        }
+        self < other
     }
 }

@@ -1,44 +1,58 @@
-use Rattle.std.proofs.Common.{◌≡◌, ◌+◌, ◌-◌, ◌*◌, ◌<◌, min, length, take, drop, refl, ap, arith}
+use Rattle.std.proofs.Common.{◌≡◌, ◌+◌, ◌<◌, length, refl, ◌∙◌, arith, rules}
 use Rattle.std.proofs.lemmas.Result.{err_from_is_err_and}
-use Rattle.writes.specs.Writes.{lines_for}
-use Rattle.writes.proofs.Onward.{lines_go_on, lines_stop, lines_end, part_length, rows_more, rows_none}
+use Rattle.std.specs.Slice.Iter.{chunks_rest}
+use Rattle.writes.proofs.Onward.{lines_go_on, lines_stop, lines_end, rows_turn, rows_over, line_less}
 use Rattle.writes.proofs.write_lines.Goals as goal
+
+pub loop-line-init : goal.loop-line-init
+loop-line-init g c =
+    rw (c.into_iter-line-iterator.ensures.into_iter_gives, c.chunks-line-items.ensures.rest)
+    (search rules, tt, search rules, omega arith, λ _ _. (λ _. refl, refl))
 
 pub returns-in_err-write_row : goal.returns-in_err-write_row
 returns-in_err-write_row g c =
     let p = err_from_is_err_and c.from_residual.result c.from_residual.ensures.1 in
-    let ws = c.args.words.now in
-    let start = 8 * c.loop-i.i in
-    let end = start + c.min.result in
-    let long : length (take (end - start) (drop start ws)) ≡ min (length ws - start) 8 = part_length start end ws (ap (λ x. start + x) c.min.ensures) in
+    let inv = c.loop-line.invariant in
+    let step = c.in-Some.ensures.steps.1 in
     let few = c.in_err-write_row.ensures.few in
-    let next : c.loop-i.i < lines_for (length ws) = omega (arith, c.loop-i-test.true, c.div_ceil-i-end.ensures) in
+    let less = line_less (chunks_rest c.loop-line.line-iterator) c.in-Some.line.now (chunks_rest c.next.new.self) step.0 (rw inv.2 at step.1) step.2 in
     record {
       done = λ fits counted.
+          let now = inv.4 fits counted in
+          let place = now.0 step.2 in
           rw (p.1, p.2)
-          (lines_stop _ _ _ _ (c.loop-i.invariant.1 fits counted) _ _ _ _ _
-          (rows_more _ _ _ c.saturating_add.result start end ws next (omega arith) refl (omega arith))
+          (lines_stop _ _ _ _ now.1 _ _ _ _ _
+          (rows_turn c.loop-line.at (c.loop-line.at + 8) (chunks_rest c.loop-line.line-iterator) c.in-Some.line.now (chunks_rest c.next.new.self) step.0 (rw inv.2 at step.1) step.2 (λ _. refl))
           (c.in_err-write_row.ensures.done (omega arith) (omega arith)));
       few = omega arith;
     }
 
-pub loop-i-preserved : goal.loop-i-preserved
-loop-i-preserved g c =
-    let ws = c.args.words.now in
-    let start = 8 * c.loop-i.i in
-    let end = start + c.min.result in
-    let long : length (take (end - start) (drop start ws)) ≡ min (length ws - start) 8 = part_length start end ws (ap (λ x. start + x) c.min.ensures) in
+pub loop-line-preserved : goal.loop-line-preserved
+loop-line-preserved g c =
+    let inv = c.loop-line.invariant in
+    let step = c.in-Some.ensures.steps.1 in
     let few = c.in_ok-write_row.ensures.few in
-    let next : c.loop-i.i < lines_for (length ws) = omega (arith, c.loop-i-test.true, c.div_ceil-i-end.ensures) in (
+    let less = line_less (chunks_rest c.loop-line.line-iterator) c.in-Some.line.now (chunks_rest c.next.new.self) step.0 (rw inv.2 at step.1) step.2 in (
+      search rules,
+      tt,
+      c.in-Some.ensures.steps.0 ∙ inv.2,
       omega arith,
       λ fits counted.
-          lines_go_on _ _ _ _ (c.loop-i.invariant.1 fits counted) _ _ _ _
-          (rows_more _ _ _ c.saturating_add.result start end ws next (omega arith) refl (omega arith))
-          (c.in_ok-write_row.ensures.done (omega arith) (omega arith)),
+          let now = inv.4 fits counted in
+          let place = now.0 step.2 in
+          let more : 0 < length (chunks_rest c.next.new.self) → c.saturating_add-at.result ≡ c.loop-line.at + 8 = λ h. omega arith in (
+            λ h. omega (arith, more h),
+            lines_go_on _ _ _ _ now.1 _ _ _ _
+                (rows_turn c.loop-line.at c.saturating_add-at.result (chunks_rest c.loop-line.line-iterator) c.in-Some.line.now (chunks_rest c.next.new.self) step.0 (rw inv.2 at step.1) step.2 more)
+                (c.in_ok-write_row.ensures.done (omega arith) (omega arith)),
+          ),
     )
 
 pub returns : goal.returns
-returns g c = record {
-  done = λ fits counted. lines_end _ _ _ _ (c.loop-i.invariant.1 fits counted) (rows_none (lines_for (length c.args.words.now)) c.loop-i.i _ _ (omega arith));
-  few = omega arith;
-}
+returns g c =
+    let inv = c.loop-line.invariant in
+    let none = c.in-None.ensures.steps.1.0 in
+    record {
+      done = λ fits counted. lines_end _ _ _ _ (inv.4 fits counted).1 (rows_over c.loop-line.at (chunks_rest c.loop-line.line-iterator) none);
+      few = omega arith;
+    }
