@@ -3,20 +3,13 @@ use keys::Key;
 use keys::stamp::Stamp;
 use layers::margin::Margin;
 use layers::rotation::Rotation;
+use leaves::leaf::Element;
 use makes::buffered::Buffered;
 use memory::{Memory, cut};
 use refusal::Refusal;
 use std::io;
 
 const READING: u64 = 250;
-
-// A sign, the words of a key, and a reading: what the logbook's slots hold.
-#[derive(Clone, Copy)]
-struct Element {
-    sign: u64,
-    key: (u64, u64),
-    reading: u64,
-}
 
 // A buffered memory under a margin of one line and a rotation by one line.
 fn pile<'a>(
@@ -32,10 +25,7 @@ pub fn show(rt: &impl Print) -> io::Result<()> {
     println!(rt; "One correction, from its date into the memory and back")?;
     match Stamp::new(2024, 366, 0) {
         Ok(stamp) => show_stamp(rt, &stamp),
-        Err(refusal) => {
-            let number = refusal.number();
-            println!(rt; "  refused {number}")
-        }
+        Err(refusal) => println!(rt; "  refused {refusal}"),
     }
 }
 
@@ -86,10 +76,7 @@ fn show_line(rt: &impl Print, memory: &Rotation<Margin<Buffered<'_>>>) -> io::Re
 fn show_answer(rt: &impl Print, answer: Result<(), Refusal>, left: u64) -> io::Result<()> {
     match answer {
         Ok(()) => println!(rt; "granted     {left}"),
-        Err(refusal) => {
-            let number = refusal.number();
-            println!(rt; "refused {number:<3} {left}")
-        }
+        Err(refusal) => println!(rt; "refused {refusal:<3} {left}"),
     }
 }
 
@@ -125,22 +112,18 @@ fn show_cut(
     }
     let _ = memory.flush(0);
     let chosen = at_the_bottom(&memory, choice);
-    match cut(&mut memory, &chosen, 0) {
-        Ok(()) => show_read_back(rt, kept, read_element(&mut memory)),
-        Err(refusal) => show_read_back(rt, kept, Err(refusal)),
-    }
+    let element = cut(&mut memory, &chosen, 0).and_then(|()| read_element(&mut memory));
+    show_read_back(rt, kept, element)
 }
 
 // The choice for words 0 to 3, as a choice run over the words of the buffered memory.
 fn at_the_bottom(memory: &Rotation<Margin<Buffered<'_>>>, choice: [u64; 4]) -> [u64; 32] {
     let mut run = [0; 32];
     for (at, keep) in choice.iter().enumerate() {
-        if let Some(turned) = memory.word_below(at) {
-            if let Some(bottom) = memory.below().word_below(turned) {
-                if bottom < 32 {
-                    run[bottom] = *keep;
-                }
-            }
+        let below = memory.word_below(at);
+        let bottom = below.and_then(|turned| memory.below().word_below(turned));
+        if let Some(place) = bottom.and_then(|bottom| run.get_mut(bottom)) {
+            *place = *keep;
         }
     }
     run
@@ -163,10 +146,7 @@ fn show_read_back(
             show_words(rt, kept, element)?;
             show_correction(rt, element)
         }
-        Err(refusal) => {
-            let number = refusal.number();
-            println!(rt; "  {kept}    refused {number}")
-        }
+        Err(refusal) => println!(rt; "  {kept}    refused {refusal}"),
     }
 }
 
@@ -186,9 +166,6 @@ fn show_correction(rt: &impl Print, element: Element) -> io::Result<()> {
             let reading = element.reading;
             println!(rt; "{year} day {day} millisecond {ms}: {reading}")
         }
-        Err(refusal) => {
-            let number = refusal.number();
-            println!(rt; "refused {number}: no key")
-        }
+        Err(refusal) => println!(rt; "refused {refusal}: no key"),
     }
 }

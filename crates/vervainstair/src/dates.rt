@@ -20,9 +20,6 @@ fn show_day(rt: &impl Print, year: u64, day: u64) -> io::Result<()> {
             let (y, d) = (stamp.year(), stamp.day());
             println!(rt; "  {year}-{day}   {y}-{d}")
         }
-        Err(refusal) => {
-            let number = refusal.number();
-            println!(rt; "  {year}-{day}   refused {number}")
-        }
+        Err(refusal) => println!(rt; "  {year}-{day}   refused {refusal}"),
     }
 }
