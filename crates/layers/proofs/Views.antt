@@ -1,22 +1,13 @@
 -- A layer answers and changes as the memory that it shows.
-use Rattle.std.proofs.Common.{◌≡◌, ℕ, ◌+◌, ◌-◌, ◌*◌, ◌/◌, ◌%◌, ◌<◌, ◌≤◌, Bool, true, false, cond, eqb, ltb, List, length, get_or, set, is_ok, Some, None, Err, Option, Result, sym, refl, ap, ◌∙◌, subst, inl, inr, mod-lt, mod-eq_of_lt, arith}
-use native.Mathlib.Nat.{add-mod-mod, mod-eq-sub-mod}
+use Rattle.std.proofs.Common.{◌≡◌, ℕ, ◌*◌, ◌/◌, ◌<◌, ◌≤◌, Bool, true, false, cond, eqb, ltb, List, length, get_or, set, is_ok, Some, None, Err, Option, Result, sym, refl, ap, ◌∙◌, subst, inl, inr, arith}
 use Rattle.std.proofs.lemmas.List.{length-set, get_or-set_same, get_or-set_other}
-use Rattle.std.proofs.lemmas.Bool.{cases_eq, cond_both, eq-eqb, ne_eqb, lt-leb, le-leb, ltb-true, ltb-false}
+use Rattle.std.proofs.lemmas.Bool.{cases_eq, cond_both, eq-eqb, ne_eqb, lt-leb, le-leb}
 use Rattle.std.proofs.lemmas.Bool.Decides.{nat_tests}
 use Rattle.refusal.specs.declared.Refusal.{Refusal}
 use Rattle.refusal.specs.declared.Refusal.TheVariants.{Outside}
 use Rattle.memory.specs.Meaning.{Words, Lawful, size_of, picked, read_answer, store_answer, stored, after_store, flush_answer, flushed, after_flush, odd_at, settle_answer, after_settle}
-use Rattle.layers.specs.Layers.{Numbering, at_place, layered, line_under, margin, place, rotation, seen, shown, word_below}
+use Rattle.layers.specs.Layers.{Numbering, Sound, View, at_place, layered, line_under, place, seen, shown, word_below}
 use Rattle.memory.proofs.Words.{length_tabled, tabled_at, is_tabled, picked_by, words_by}
-
--- A layer of n words stays within the memory, and keeps its lines apart.
-pub record View (line : ℕ → ℕ) (n size : ℕ) : Type 0 where
-  pub within : (i : ℕ) → i < n → place line i < size
-  pub apart : (k l : ℕ) → 8 * k < n → 8 * l < n → line k ≡ line l → k ≡ l
-
-pub record Sound (num : Numbering) : Type 0 where
-  pub view : (size : ℕ) → View (num.line size) (num.words size) size
 
 none_past : (i n x : ℕ) → None ≡ cond (ltb i n) (Some x) None → n ≤ i
 none_past i n x e = grind (arith, nat_tests)
@@ -204,28 +195,3 @@ module _ {num : Numbering} {m : Words} (sound : Sound num) (laws : Lawful m) whe
   settle_some extent origin choice steps after =
       ap (layered num) after ∙ rw (size_after_settle m extent origin choice steps)
       (after_settle_within (num.line (size_of m)) (num.words (size_of m)) m (sound.view (size_of m)) laws extent origin choice steps)
-
-pub margin_sound : (hidden : ℕ) → Sound (margin hidden)
-margin_sound hidden = record { view = λ size. record { within = λ i h. omega arith; apart = λ k l _ _ e. omega arith } }
-
--- A turn of fewer than n lines, and of any number of them.
-turn_small : (n by l : ℕ) → by < n → l < n → (l + by) % n ≡ cond (ltb (l + by) n) (l + by) (l + by - n)
-turn_small n by l b h =
-    cond_both (ltb (l + by) n) _ _ (λ x. (l + by) % n ≡ x)
-    (λ e. mod-eq_of_lt (ltb-true (l + by) n e))
-    (λ e. let past = ltb-false (l + by) n e in mod-eq-sub-mod past ∙ mod-eq_of_lt (omega arith))
-
-turn_apart : (n by k l : ℕ) → k < n → l < n → (k + by) % n ≡ (l + by) % n → k ≡ l
-turn_apart n by k l hk hl e =
-    let b : by % n < n = mod-lt by (omega arith) in
-    let ek = sym (add-mod-mod k by n) ∙ turn_small n (by % n) k b hk in
-    let el = sym (add-mod-mod l by n) ∙ turn_small n (by % n) l b hl in
-    grind (arith, nat_tests)
-
-pub rotation_sound : (by : ℕ) → Sound (rotation by)
-rotation_sound by = record {
-  view = λ size. record {
-    within = λ i h. let turned : (i / 8 + by) % (size / 8) < size / 8 = mod-lt (i / 8 + by) (omega arith) in omega arith;
-    apart = λ k l hk hl e. turn_apart (size / 8) by k l (omega arith) (omega arith) e;
-  };
-}
