@@ -76,9 +76,7 @@ impl<N: Renumber, M: Memory> Memory for Layer<N, M> {
         ensures kept { self.new.numbering ≡ self.old.numbering }
         ensures below { M.Memory.meaning self.new.below ≡ M.Memory.meaning self.old.below }
     {
-        let Some(at) = self.word_below(at) else {
-            return Err(Refusal::Outside);
-        };
+        let at = self.word_below(at).ok_or(Refusal::Outside)?;
         self.below.read(at)
     }
 
@@ -88,9 +86,7 @@ impl<N: Renumber, M: Memory> Memory for Layer<N, M> {
         ensures kept { self.new.numbering ≡ self.old.numbering }
         ensures below { M.Memory.meaning self.new.below ≡ store_below (N.numbering self.old.numbering) (M.Memory.meaning self.old.below) at word }
     {
-        let Some(at) = self.word_below(at) else {
-            return Err(Refusal::Outside);
-        };
+        let at = self.word_below(at).ok_or(Refusal::Outside)?;
         self.below.store(at, word)
     }
 
@@ -100,9 +96,7 @@ impl<N: Renumber, M: Memory> Memory for Layer<N, M> {
         ensures kept { self.new.numbering ≡ self.old.numbering }
         ensures below { M.Memory.meaning self.new.below ≡ flush_below (N.numbering self.old.numbering) (M.Memory.meaning self.old.below) line }
     {
-        let Some(line) = self.line_below(line) else {
-            return Err(Refusal::Outside);
-        };
+        let line = self.line_below(line).ok_or(Refusal::Outside)?;
         self.below.flush(line)
     }
 }

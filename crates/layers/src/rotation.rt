@@ -8,7 +8,7 @@ use memory::Memory;
 // A rotation has the whole lines of the memory below, turned: its line l is line (l + by) mod their number. A short last line is no part of it.
 pub type Rotation<M> = Layer<Turned, M>;
 
-#[derive(Clone, Copy)]
+#[derive(Drop)]
 pub struct Turned {
     by: usize,
 }
