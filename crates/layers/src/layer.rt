@@ -66,6 +66,7 @@ impl<N: Renumber, M: Memory> Memory for Layer<N, M> {
 
     ghost laws = { λ s. layered_lawful (N.numbering s.numbering) (M.Memory.laws s.below) };
 
+    #[tactic(auto, using(crate::proofs::Views::size_layered))]
     fn size(&self) -> usize {
         self.numbering.words(self.below.size())
     }

@@ -8,6 +8,7 @@ use memory::Memory;
 // A margin hides the first lines of the memory below: word i is word i + 8 × lines of it.
 pub type Margin<M> = Layer<Hidden, M>;
 
+// The numbering of a margin: how many lines it hides.
 #[derive(Drop)]
 pub struct Hidden {
     lines: usize,

@@ -1,4 +1,4 @@
-ghost use Rattle.std.specs.Prelude.{◌≡◌, ◌+◌, ◌%◌, ◌^◌, ◌<◌};
+ghost use Rattle.std.specs.Prelude.{◌≡◌};
 ghost use Rattle.layers.specs.Layers.{rotation};
 ghost use Rattle.layers.specs.NumberingLaws.{rotation_sound};
 
@@ -8,6 +8,7 @@ use memory::Memory;
 // A rotation has the whole lines of the memory below, turned: its line l is line (l + by) mod their number. A short last line is no part of it.
 pub type Rotation<M> = Layer<Turned, M>;
 
+// The numbering of a rotation: by how many lines it turns.
 #[derive(Drop)]
 pub struct Turned {
     by: usize,
