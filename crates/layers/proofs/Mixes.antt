@@ -2,9 +2,9 @@
 use Rattle.std.proofs.Common.{◌≡◌, ℕ, zero, suc, ◌/◌, ◌<◌, Bool, true, false, ◌&&◌, ◌||◌, eqb, get_or, sym, refl, ap, ◌∙◌, inl, inr, arith}
 use Rattle.std.proofs.lemmas.Bool.{cases_eq, eq-eqb, ne_eqb}
 use Rattle.memory.specs.Meaning.{Words, Lawful, Freely, size_of, odd_at}
-use Rattle.layers.specs.Layers.{Numbering, layered, place, shown}
+use Rattle.layers.specs.Layers.{Numbering, Sound, View, layered, place, shown}
 use Rattle.memory.proofs.Words.{length_tabled, picked_by}
-use Rattle.layers.proofs.Views.{View, Sound, shown_picked}
+use Rattle.layers.proofs.Views.{shown_picked}
 
 -- Whether the test holds somewhere below n.
 any_below : ℕ → (ℕ → Bool) → Bool

@@ -1,39 +1,17 @@
 -- A layer answers and changes as the memory that it shows.
-use Rattle.std.proofs.Common.{◌≡◌, ℕ, ◌+◌, ◌-◌, ◌*◌, ◌/◌, ◌%◌, ◌<◌, ◌≤◌, Bool, true, false, cond, eqb, ltb, List, length, get_or, set, is_ok, Some, None, Err, Option, Result, sym, refl, ap, ◌∙◌, subst, inl, inr, mod-lt, mod-eq_of_lt, arith}
-use native.Mathlib.Nat.{add-mod-mod, mod-eq-sub-mod}
+use Rattle.std.proofs.Common.{◌≡◌, ℕ, ◌*◌, ◌/◌, ◌<◌, ◌≤◌, Bool, true, false, cond, eqb, ltb, List, length, get_or, set, is_ok, Some, None, Err, Option, Result, sym, refl, ap, ◌∙◌, subst, inl, inr, arith}
 use Rattle.std.proofs.lemmas.List.{length-set, get_or-set_same, get_or-set_other}
 use Rattle.std.proofs.lemmas.Bool.{cases_eq, cond_both, eq-eqb, ne_eqb, lt-leb, le-leb, ltb-true, ltb-false}
-use Rattle.std.proofs.lemmas.Bool.Decides.{nat_tests}
 use Rattle.refusal.specs.declared.Refusal.{Refusal}
 use Rattle.refusal.specs.declared.Refusal.TheVariants.{Outside}
 use Rattle.memory.specs.Meaning.{Words, Lawful, size_of, picked, read_answer, store_answer, stored, after_store, flush_answer, flushed, after_flush, odd_at, settle_answer, after_settle}
-use Rattle.layers.specs.Layers.{Numbering, at_place, layered, line_under, margin, place, rotation, seen, shown, word_below}
+use Rattle.layers.specs.Layers.{Numbering, Sound, View, at_place, layered, line_under, place, seen, shown, word_below}
 use Rattle.memory.proofs.Words.{length_tabled, tabled_at, is_tabled, picked_by, words_by}
 
--- A layer of n words stays within the memory, and keeps its lines apart.
-pub record View (line : ℕ → ℕ) (n size : ℕ) : Type 0 where
-  pub within : (i : ℕ) → i < n → place line i < size
-  pub apart : (k l : ℕ) → 8 * k < n → 8 * l < n → line k ≡ line l → k ≡ l
-
-pub record Sound (num : Numbering) : Type 0 where
-  pub view : (size : ℕ) → View (num.line size) (num.words size) size
-
-none_past : (i n x : ℕ) → None ≡ cond (ltb i n) (Some x) None → n ≤ i
-none_past i n x e = grind (arith, nat_tests)
-
-some_within : (i n x y : ℕ) → Some y ≡ cond (ltb i n) (Some x) None → (i < n) × (y ≡ x)
-some_within i n x y e = grind (arith, nat_tests)
-
--- What is done below a layer, if there is a place, and if there is none.
-pub done_below : {o : Option ℕ} {j : ℕ} (done : ℕ → Words) (m : Words) → Some j ≡ o → done j ≡ at_place o done m
-done_below {o} {j} done m e = let P : Option ℕ → Type 0 = λ o. done j ≡ at_place o done m in subst P e refl
-
-pub kept_below : {o : Option ℕ} (done : ℕ → Words) (m : Words) → None ≡ o → m ≡ at_place o done m
-kept_below {o} done m e = let P : Option ℕ → Type 0 = λ o. m ≡ at_place o done m in subst P e refl
-
--- A refused call changes nothing.
-refused : (r : Result (Unit {0}) Refusal) (x y : Words) (why : Refusal) → Err why ≡ r → y ≡ cond (is_ok r) x y
-refused r x y why e = let P : Result (Unit {0}) Refusal → Type 0 = λ r. y ≡ cond (is_ok r) x y in subst P e refl
+-- What a layer answers by the word or the line found below: what is answered there, or that it is outside.
+abbrev pub found : {A : Type 0} → Option ℕ → (ℕ → Result A Refusal) → Result A Refusal
+found (Some j) answer = answer j
+found None answer = Err Outside
 
 -- No call changes the size.
 size_after_store : (m : Words) (i w : ℕ) → size_of (after_store m i w) ≡ size_of m
@@ -42,7 +20,7 @@ size_after_store m i w = cond_both (is_ok (store_answer m i)) _ _ (λ x. size_of
 size_after_flush : (m : Words) (l : ℕ) → size_of (after_flush m l) ≡ size_of m
 size_after_flush m l = cond_both (is_ok (flush_answer m l)) _ _ (λ x. size_of x ≡ size_of m) (λ _. refl) (λ _. refl)
 
-pub size_after_settle : (m : Words) (extent : ℕ) (origin : ℕ → ℕ) (choice : List ℕ) (steps : ℕ) → size_of (after_settle m extent origin choice steps) ≡ size_of m
+size_after_settle : (m : Words) (extent : ℕ) (origin : ℕ → ℕ) (choice : List ℕ) (steps : ℕ) → size_of (after_settle m extent origin choice steps) ≡ size_of m
 size_after_settle m extent origin choice steps = cond_both (is_ok (settle_answer extent choice)) _ _ (λ x. size_of x ≡ size_of m) (λ _. length_tabled (size_of m) _) (λ _. refl)
 
 module _ (line : ℕ → ℕ) (n : ℕ) where
@@ -147,85 +125,66 @@ module _ (line : ℕ → ℕ) (n : ℕ) where
 pub size_layered : (num : Numbering) (m : Words) → size_of (layered num m) ≡ num.words (size_of m)
 size_layered num m = size_seen (num.line (size_of m)) (num.words (size_of m)) m
 
--- A layer that finds nothing below refuses, and changes nothing.
-module _ (num : Numbering) (m : Words) where
-  past_word : (i : ℕ) → None ≡ word_below num (size_of m) i → num.words (size_of m) ≤ i
-  past_word i e = none_past i (num.words (size_of m)) (place (num.line (size_of m)) i) e
-
-  pub read_none : (i : ℕ) → None ≡ word_below num (size_of m) i → Err Outside ≡ read_answer (layered num m) i
-  read_none i e = read_outside (num.line (size_of m)) (num.words (size_of m)) m i (past_word i e)
-
-  pub store_none : (i w : ℕ) → None ≡ word_below num (size_of m) i
-      → (Err Outside ≡ store_answer (layered num m) i) × (layered num m ≡ after_store (layered num m) i w)
-  store_none i w e =
-      let outside = store_outside (num.line (size_of m)) (num.words (size_of m)) m i (past_word i e) in
-      (outside, refused (store_answer (layered num m) i) (stored (layered num m) i w) (layered num m) Outside outside)
-
-  pub flush_none : (l : ℕ) → None ≡ line_under num (size_of m) l
-      → (Err Outside ≡ flush_answer (layered num m) l) × (layered num m ≡ after_flush (layered num m) l)
-  flush_none l e =
-      let outside = flush_outside (num.line (size_of m)) (num.words (size_of m)) m l (none_past (8 * l) (num.words (size_of m)) (num.line (size_of m) l) e) in
-      (outside, refused (flush_answer (layered num m) l) (flushed (layered num m) l) (layered num m) Outside outside)
-
--- Where it finds a word or a line, what the memory below answered and became, r and m', are its own.
+-- What a layer answers and becomes, by what is found below: o.
 module _ {num : Numbering} {m : Words} (sound : Sound num) (laws : Lawful m) where
-  found_word : (i j : ℕ) → Some j ≡ word_below num (size_of m) i → (i < num.words (size_of m)) × (j ≡ place (num.line (size_of m)) i)
-  found_word i j e = some_within i (num.words (size_of m)) (place (num.line (size_of m)) i) j e
+  word_found : (P : Option ℕ → Type 0) (i : ℕ) → (i < num.words (size_of m) → P (Some (place (num.line (size_of m)) i)))
+      → (num.words (size_of m) ≤ i → P None) → {o : Option ℕ} → o ≡ word_below num (size_of m) i → P o
+  word_found P i inside outside e =
+      subst P (sym e) (cond_both (ltb i (num.words (size_of m))) _ _ P (λ t. inside (ltb-true i _ t)) (λ f. outside (ltb-false i _ f)))
 
-  found_line : (l k : ℕ) → Some k ≡ line_under num (size_of m) l → (8 * l < num.words (size_of m)) × (k ≡ num.line (size_of m) l)
-  found_line l k e = some_within (8 * l) (num.words (size_of m)) (num.line (size_of m) l) k e
+  line_found : (P : Option ℕ → Type 0) (l : ℕ) → (8 * l < num.words (size_of m) → P (Some (num.line (size_of m) l)))
+      → (num.words (size_of m) ≤ 8 * l → P None) → {o : Option ℕ} → o ≡ line_under num (size_of m) l → P o
+  line_found P l inside outside e =
+      subst P (sym e) (cond_both (ltb (8 * l) (num.words (size_of m))) _ _ P (λ t. inside (ltb-true (8 * l) _ t)) (λ f. outside (ltb-false (8 * l) _ f)))
 
-  pub read_some : {r : Result ℕ Refusal} {m' : Words} {j : ℕ} (i : ℕ) → Some j ≡ word_below num (size_of m) i
-      → r ≡ read_answer m j → m' ≡ m → (r ≡ read_answer (layered num m) i) × (layered num m' ≡ layered num m)
-  read_some {j = j} i e answer after =
-      let s = found_word i j e in
-      (answer ∙ rw s.1 (read_within (num.line (size_of m)) (num.words (size_of m)) m (sound.view (size_of m)) laws i s.0), ap (layered num) after)
+  pub read_found : (i : ℕ) {o : Option ℕ} → o ≡ word_below num (size_of m) i → found o (read_answer m) ≡ read_answer (layered num m) i
+  read_found i e =
+      word_found (λ o. found o (read_answer m) ≡ read_answer (layered num m) i) i
+      (read_within (num.line (size_of m)) (num.words (size_of m)) m (sound.view (size_of m)) laws i)
+      (read_outside (num.line (size_of m)) (num.words (size_of m)) m i)
+      e
 
-  pub store_some : {r : Result (Unit {0}) Refusal} {m' : Words} {j : ℕ} (i w : ℕ) → Some j ≡ word_below num (size_of m) i
-      → r ≡ store_answer m j → m' ≡ after_store m j w → (r ≡ store_answer (layered num m) i) × (layered num m' ≡ after_store (layered num m) i w)
-  store_some {j = j} i w e answer after =
-      let s = found_word i j e in (
-        answer ∙ rw s.1 (store_within (num.line (size_of m)) (num.words (size_of m)) m (sound.view (size_of m)) laws i s.0),
-        ap (layered num) after ∙ rw (s.1, size_after_store m (place (num.line (size_of m)) i) w)
-            (after_store_within (num.line (size_of m)) (num.words (size_of m)) m (sound.view (size_of m)) laws i w s.0),
-      )
+  pub store_found : (i : ℕ) {o : Option ℕ} → o ≡ word_below num (size_of m) i → found o (store_answer m) ≡ store_answer (layered num m) i
+  store_found i e =
+      word_found (λ o. found o (store_answer m) ≡ store_answer (layered num m) i) i
+      (store_within (num.line (size_of m)) (num.words (size_of m)) m (sound.view (size_of m)) laws i)
+      (store_outside (num.line (size_of m)) (num.words (size_of m)) m i)
+      e
 
-  pub flush_some : {r : Result (Unit {0}) Refusal} {m' : Words} {k : ℕ} (l : ℕ) → Some k ≡ line_under num (size_of m) l
-      → r ≡ flush_answer m k → m' ≡ after_flush m k → (r ≡ flush_answer (layered num m) l) × (layered num m' ≡ after_flush (layered num m) l)
-  flush_some {k = k} l e answer after =
-      let s = found_line l k e in (
-        answer ∙ rw s.1 (flush_within (num.line (size_of m)) (num.words (size_of m)) m (sound.view (size_of m)) laws l s.0),
-        ap (layered num) after ∙ rw (s.1, size_after_flush m (num.line (size_of m) l))
-            (after_flush_within (num.line (size_of m)) (num.words (size_of m)) m (sound.view (size_of m)) laws l s.0),
-      )
+  pub flush_found : (l : ℕ) {o : Option ℕ} → o ≡ line_under num (size_of m) l → found o (flush_answer m) ≡ flush_answer (layered num m) l
+  flush_found l e =
+      line_found (λ o. found o (flush_answer m) ≡ flush_answer (layered num m) l) l
+      (flush_within (num.line (size_of m)) (num.words (size_of m)) m (sound.view (size_of m)) laws l)
+      (flush_outside (num.line (size_of m)) (num.words (size_of m)) m l)
+      e
 
-  pub settle_some : {m' : Words} (extent : ℕ) (origin : ℕ → ℕ) (choice : List ℕ) (steps : ℕ) → m' ≡ after_settle m extent origin choice steps
+  pub after_store_found : (i w : ℕ) {o : Option ℕ} → o ≡ word_below num (size_of m) i
+      → layered num (at_place o (λ j. after_store m j w) m) ≡ after_store (layered num m) i w
+  after_store_found i w e =
+      word_found (λ o. layered num (at_place o (λ j. after_store m j w) m) ≡ after_store (layered num m) i w) i
+      (λ h. rw (size_after_store m (place (num.line (size_of m)) i) w)
+      (after_store_within (num.line (size_of m)) (num.words (size_of m)) m (sound.view (size_of m)) laws i w h))
+      (λ h. rw (sym (store_outside (num.line (size_of m)) (num.words (size_of m)) m i h)) refl)
+      e
+
+  pub after_flush_found : (l : ℕ) {o : Option ℕ} → o ≡ line_under num (size_of m) l
+      → layered num (at_place o (after_flush m) m) ≡ after_flush (layered num m) l
+  after_flush_found l e =
+      line_found (λ o. layered num (at_place o (after_flush m) m) ≡ after_flush (layered num m) l) l
+      (λ h. rw (size_after_flush m (num.line (size_of m) l))
+      (after_flush_within (num.line (size_of m)) (num.words (size_of m)) m (sound.view (size_of m)) laws l h))
+      (λ h. rw (sym (flush_outside (num.line (size_of m)) (num.words (size_of m)) m l h)) refl)
+      e
+
+  pub after_settle_layered : {m' : Words} (extent : ℕ) (origin : ℕ → ℕ) (choice : List ℕ) (steps : ℕ) → m' ≡ after_settle m extent origin choice steps
       → layered num m' ≡ after_settle (layered num m) extent (λ i. origin (place (num.line (size_of m)) i)) choice steps
-  settle_some extent origin choice steps after =
+  after_settle_layered extent origin choice steps after =
       ap (layered num) after ∙ rw (size_after_settle m extent origin choice steps)
       (after_settle_within (num.line (size_of m)) (num.words (size_of m)) m (sound.view (size_of m)) laws extent origin choice steps)
 
-pub margin_sound : (hidden : ℕ) → Sound (margin hidden)
-margin_sound hidden = record { view = λ size. record { within = λ i h. omega arith; apart = λ k l _ _ e. omega arith } }
-
--- A turn of fewer than n lines, and of any number of them.
-turn_small : (n by l : ℕ) → by < n → l < n → (l + by) % n ≡ cond (ltb (l + by) n) (l + by) (l + by - n)
-turn_small n by l b h =
-    cond_both (ltb (l + by) n) _ _ (λ x. (l + by) % n ≡ x)
-    (λ e. mod-eq_of_lt (ltb-true (l + by) n e))
-    (λ e. let past = ltb-false (l + by) n e in mod-eq-sub-mod past ∙ mod-eq_of_lt (omega arith))
-
-turn_apart : (n by k l : ℕ) → k < n → l < n → (k + by) % n ≡ (l + by) % n → k ≡ l
-turn_apart n by k l hk hl e =
-    let b : by % n < n = mod-lt by (omega arith) in
-    let ek = sym (add-mod-mod k by n) ∙ turn_small n (by % n) k b hk in
-    let el = sym (add-mod-mod l by n) ∙ turn_small n (by % n) l b hl in
-    grind (arith, nat_tests)
-
-pub rotation_sound : (by : ℕ) → Sound (rotation by)
-rotation_sound by = record {
-  view = λ size. record {
-    within = λ i h. let turned : (i / 8 + by) % (size / 8) < size / 8 = mod-lt (i / 8 + by) (omega arith) in omega arith;
-    apart = λ k l hk hl e. turn_apart (size / 8) by k l (omega arith) (omega arith) e;
-  };
-}
+-- A settle moves no word of a layer to another word at the bottom.
+pub origin_layered : (num : Numbering) (m : Words) {m' : Words} {origin' : ℕ → ℕ} (extent : ℕ) (origin : ℕ → ℕ) (choice : List ℕ) (steps : ℕ)
+    → m' ≡ after_settle m extent origin choice steps → ((i : ℕ) → origin' i ≡ origin i)
+    → (i : ℕ) → origin' (place (num.line (size_of m')) i) ≡ origin (place (num.line (size_of m)) i)
+origin_layered num m extent origin choice steps after same i =
+    same _ ∙ ap (λ n. origin (place (num.line n) i)) (ap size_of after ∙ size_after_settle m extent origin choice steps)

@@ -1,5 +1,5 @@
 -- What each layer means by the memory below it, whose lines it shows under numbers of its own.
-use Rattle.std.specs.Prelude.{ℕ, ◌+◌, ◌-◌, ◌*◌, ◌/◌, ◌%◌, cond, List, Some, None, Option, nat_lt, slice_index}
+use Rattle.std.specs.Prelude.{◌≡◌, ℕ, ◌+◌, ◌-◌, ◌*◌, ◌/◌, ◌%◌, ◌<◌, cond, List, Some, None, Option, nat_lt, slice_index}
 use Rattle.std.proofs.Common.{sym, ap, ◌∙◌}
 use Rattle.std.proofs.lemmas.List.FromFn.{length-map-range_with_len}
 use Rattle.memory.specs.Meaning.{Words, Lawful, size_of, tabled, after_store, after_flush}
@@ -20,6 +20,15 @@ rotation by = record { words = λ size. 8 * (size / 8); line = λ size l. (l + b
 -- The word below that word i lies on.
 abbrev pub place : (ℕ → ℕ) → ℕ → ℕ
 place line i = 8 * line (i / 8) + i % 8
+
+-- A layer of n words stays within the memory, and keeps its lines apart.
+pub record View (line : ℕ → ℕ) (n size : ℕ) : Type 0 where
+  pub within : (i : ℕ) → i < n → place line i < size
+  pub apart : (k l : ℕ) → 8 * k < n → 8 * l < n → line k ≡ line l → k ≡ l
+
+-- What holds of every numbering.
+pub record Sound (num : Numbering) : Type 0 where
+  pub view : (size : ℕ) → View (num.line size) (num.words size) size
 
 -- The words of a layer of n words, and what it means.
 abbrev pub shown : (ℕ → ℕ) → ℕ → List ℕ → List ℕ

@@ -1,6 +1,0 @@
-use Rattle.std.proofs.Common.{rules}
-use Rattle.layers.proofs.Views.{size_layered}
-use Rattle.layers.proofs.rotation.RotationMemory.size.Goals as goal
-
-pub returns : goal.returns
-returns g c = search (rules, size_layered)
