@@ -1,10 +1,10 @@
 -- What is read of a leaf's elements, said of the leaf's slots.
-use Rattle.std.proofs.Common.{◌≡◌, ℕ, zero, suc, ◌+◌, ◌<◌, ◌≤◌, Bool, true, false, cond, List, [], ◌∷◌, ◌++◌, length, get_or, take, drop, map, reverse, Some, None, Ok, Option, Result, option_and_then, sym, refl, ap, ◌∙◌, arith}
+use Rattle.std.proofs.Common.{◌≡◌, ℕ, zero, suc, ◌+◌, ◌<◌, Bool, true, false, cond, List, [], ◌∷◌, ◌++◌, length, get_or, take, drop, map, reverse, Some, None, Ok, Option, Result, option_and_then, sym, refl, ap, ◌∙◌, arith}
 use Rattle.std.specs.List.{find, fold, range_with_len}
 use Rattle.std.specs.Option.{option_or}
-use Rattle.std.proofs.lemmas.List.{drop_more, drop_all, map-append, reverse-append}
+use Rattle.std.proofs.lemmas.List.{drop_more, map-append, reverse-append}
 use Rattle.std.proofs.lemmas.List.Folds.{find-append}
-use Rattle.std.proofs.lemmas.List.Sums.{fold_more}
+use Rattle.std.proofs.lemmas.List.Sums.{fold_more, fold_push}
 use Rattle.std.proofs.lemmas.List.FromFn.{length-map-range_with_len, map-range_with_len_more}
 use Rattle.fixed_vec.specs.Items.{joined}
 use Rattle.keys.specs.InWords.{WordKind, WordOrdered}
@@ -27,15 +27,11 @@ elements_joined m k s h =
     joined_all 16 (elements m k s) (element m k s ∷ []) (omega arith) ∙ sym (elements_more m k s)
 
 module _ (o : WordKind) where
-  folded_push : (ps : List Pair) (es : List Element) (e : Element) → folded o ps (es ++ e ∷ []) ≡ applied o e (folded o ps es)
-  folded_push ps [] e = refl
-  folded_push ps (d ∷ es) e = folded_push (applied o d ps) es e
-
   pub pairs_folded : (m : List ℕ) (k n : ℕ) → pairs o m k n ≡ folded o [] (elements m k n)
   pairs_folded m k zero = refl
   pairs_folded m k (suc n) =
       let more : elements m k (suc n) ≡ elements m k n ++ element m k n ∷ [] = let e : suc n ≡ n + 1 = omega arith in ap (elements m k) e ∙ elements_more m k n in
-      ap (applied o (element m k n)) (pairs_folded m k n) ∙ sym (folded_push [] (elements m k n) (element m k n)) ∙ ap (folded o []) (sym more)
+      ap (applied o (element m k n)) (pairs_folded m k n) ∙ sym (fold_push (λ ps e. applied o e ps) [] (elements m k n) (element m k n)) ∙ ap (folded o []) (sym more)
 
   -- the first bad slot, from slot s on
   wrong_from : (m : List ℕ) (bound : Option (ℕ × ℕ)) (k s n : ℕ) → first_bad o m bound k s n ≡ first_wrong o bound (pairs o m k s) s (map (element m k) (range_with_len s n))
@@ -56,17 +52,10 @@ module _ (o : WordKind) where
       ap (first_wrong o bound (folded o [] (take i es)) i) (drop_more es i d h)
       ∙ ap (λ ps. cond (good o bound (folded o [] (take i es)) (get_or es i d)) (first_wrong o bound ps (i + 1) (drop (i + 1) es)) (Some (i + 1))) (sym (fold_more (λ ps e. applied o e ps) [] es i d h))
 
-  pub wrong_end : (bound : Option (ℕ × ℕ)) (ps : List Pair) (es : List Element) (i : ℕ) → length es ≤ i → first_wrong o bound ps i (drop i es) ≡ None
-  wrong_end bound ps es i h = ap (first_wrong o bound ps i) (drop_all i es h)
-
-  fold_push : (a k : ℕ × ℕ) (ks : List (ℕ × ℕ)) → fold (λ x y. cond (o.before x y) y x) a (ks ++ k ∷ []) ≡ later o k (Some (fold (λ x y. cond (o.before x y) y x) a ks))
-  fold_push a k [] = refl
-  fold_push a k (j ∷ ks) = fold_push (cond (o.before a j) j a) k ks
-
   key_push : (es : List Element) (e : Element) → greatest_key o (es ++ e ∷ []) ≡ Some (later o e.key (greatest_key o es))
   key_push [] e = refl
   key_push (d ∷ es) e =
-      ap (λ ks. Some (fold (λ x y. cond (o.before x y) y x) d.key ks)) (map-append (λ (x : Element). x.key) es (e ∷ [])) ∙ ap Some (fold_push d.key e.key (map (λ (x : Element). x.key) es))
+      ap (λ ks. Some (fold (λ x y. cond (o.before x y) y x) d.key ks)) (map-append (λ (x : Element). x.key) es (e ∷ [])) ∙ ap Some (fold_push (λ x y. cond (o.before x y) y x) d.key (map (λ (x : Element). x.key) es) e.key)
 
   pub greatest_reduced : (m : List ℕ) (k n : ℕ) → greatest o m k n ≡ greatest_key o (elements m k n)
   greatest_reduced m k zero = refl

@@ -48,8 +48,8 @@ module _ (o : WordKind) (m : List ℕ) (leaves : ℕ) (used : List ℕ) (bound :
   ended_at zero z = let e = eq-eqb link 0 z in cc
   ended_at (suc n) z = let e = eq-eqb link 0 z in cc
 
-  pub unlinked_here : link ≡ 0 → from ≡ 0 → Err (bad_link_of from) ≡ all
-  unlinked_here z h = ap (λ f. Err (bad_link_of f)) h ∙ sym (cond-true _ _ _ (eq-eqb from 0 h)) ∙ sym (ended_at (leaves - 1 - length used) z) ∙ rest
+  pub unlinked_here : link ≡ 0 → from ≡ 0 → Err (bad_link_of 0) ≡ all
+  unlinked_here z h = sym (cond-true _ _ _ (eq-eqb from 0 h)) ∙ sym (ended_at (leaves - 1 - length used) z) ∙ rest
 
   pub ended_here : link ≡ 0 → (from ≡ 0 → ⊥) → Ok used ≡ all
   ended_here z h = sym (cond-false _ _ _ (ne_eqb from 0 h)) ∙ sym (ended_at (leaves - 1 - length used) z) ∙ rest

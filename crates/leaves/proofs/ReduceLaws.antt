@@ -1,11 +1,12 @@
 -- What `reduce` gives over a known list, at a closure that acts as a function.
-use Rattle.std.proofs.Common.{◌≡◌, List, [], ◌∷◌, ◌++◌, Some, None, Option, sym, refl, ap, ◌∙◌}
+use Rattle.std.proofs.Common.{◌≡◌, List, [], ◌∷◌, Some, None, Option, sym, refl, ap, ◌∙◌}
 use Rattle.std.specs.List.{FoldsTo, fold, reduce}
 use Rattle.std.specs.Option.{MatchOption}
 use Rattle.std.specs.Iterator.{Drains}
 use Rattle.std.specs.Fn.{Called}
 use Rattle.std.proofs.lemmas.Fn.{fold_same}
 use Rattle.std.proofs.lemmas.List.{map-id}
+use Rattle.std.proofs.lemmas.List.Sums.{fold_push}
 use Rattle.std.proofs.lemmas.Iterator.{YieldsList, items_from_drains}
 use denote.Param.Members.{Mut}
 
@@ -19,10 +20,5 @@ module _ {S A : Type 0} {steps : S → Option A → S → Type 0} {s : S} {all :
   reduced g h None d e acts = ap (reduce h) (whole [] d e)
   reduced g h {f} (Some y) d e acts =
       let x = d.0 in
-      let push : (ys : List A) (z : A) → fold h x (ys ++ z ∷ []) ≡ h (fold h x ys) z = λ ys z. fold_push x ys z in
-      ap Some (fold_same g (λ ys b. b ≡ fold h x ys) f (λ ys a z b q is k. let (stays, to) = acts a z b q k in (to ∙ ap (λ v. h v z) is ∙ sym (push ys z), stays)) d.1 x y d.2 refl d.4)
+      ap Some (fold_same g (λ ys b. b ≡ fold h x ys) f (λ ys a z b q is k. let (stays, to) = acts a z b q k in (to ∙ ap (λ v. h v z) is ∙ sym (fold_push h x ys z), stays)) d.1 x y d.2 refl d.4)
       ∙ ap (reduce h) (whole (x ∷ d.1) d.3 e)
-    where
-      fold_push : (a : A) (ys : List A) (z : A) → fold h a (ys ++ z ∷ []) ≡ h (fold h a ys) z
-      fold_push a [] z = refl
-      fold_push a (w ∷ ys) z = fold_push (h a w) ys z

@@ -52,7 +52,8 @@ pub fn next_in<K: Key, M: Memory>(
     ensures value { result ≡ counted (M.Memory.meaning memory.old).live leaf (λ n. first_after (in_words K.Key.kind) key (pairs (in_words K.Key.kind) (M.Memory.meaning memory.old).live leaf n)) }
 {
     let count = count_in(memory, leaf)?;
-    let run = load::<K>(&elements(memory, leaf, count));
+    let elements = elements(memory, leaf, count);
+    let run = load::<K>(&elements);
     Ok(next::<K>(run.as_slice(), key))
 }
 
@@ -62,7 +63,8 @@ pub fn pairs_in<K: Key, M: Memory>(memory: &mut M, leaf: usize) -> Result<usize,
     ensures value { result ≡ counted (M.Memory.meaning memory.old).live leaf (λ n. length (pairs (in_words K.Key.kind) (M.Memory.meaning memory.old).live leaf n)) }
 {
     let count = count_in(memory, leaf)?;
-    let run = load::<K>(&elements(memory, leaf, count));
+    let elements = elements(memory, leaf, count);
+    let run = load::<K>(&elements);
     Ok(run.len())
 }
 

