@@ -1,7 +1,7 @@
 -- The pairs of a memory that opens ascend from leaf to leaf.
 use Rattle.std.proofs.Common.{◌≡◌, ℕ, zero, suc, ◌+◌, ◌-◌, ◌*◌, ◌<◌, ◌≤◌, Bool, true, false, cond, not, ◌&&◌, ◌||◌, eqb, ltb, leb, ◌⊎◌, List, [], ◌∷◌, ◌++◌, length, IfOk, Some, None, Ok, Err, Option, Result, sym, refl, ap, ◌∙◌, inl, inr, ⊎_elim, append_assoc, append-nil, arith}
 use Rattle.std.proofs.lemmas.Bool.{cases_Bool, cases_eq, cond-true, cond-false, cond_both, and_parts, or_cases, ltb-true, eqb-true, both_ways, eq-eqb}
-use Rattle.leaves.specs.declared.open.Chain.{Chain}
+use Rattle.fixed_vec.specs.declared.FixedVec.{FixedVec}
 use Rattle.keys.specs.InWords.{WordKind, WordOrdered}
 use Rattle.leaves.specs.declared.leaf.Element.{Element}
 use Rattle.leaves.specs.declared.leaf.Pair.{Pair}
@@ -179,10 +179,10 @@ module _ (o : WordKind) (ordered : WordOrdered o) (m : List ℕ) where
         by go (Some s) e = err_ok refl e
         by go None e = go e
 
-  pub chained : (r : Result Chain Fault) → told r ≡ open_answer o m → IfOk r (λ c. leaves_of c ≡ chain m (word m 3 - 1) (word m 2))
+  pub chained : (r : Result (FixedVec ℕ 64) Fault) → told r ≡ open_answer o m → IfOk r (λ c. leaves_of c ≡ chain m (word m 3 - 1) (word m 2))
   chained (Ok c) h = walk_chain (word m 3 - 1) [] None 0 (word m 2) (leaves_of c) (walked (leaves_of c) (sym h))
   chained (Err e) h = tt
 
-  pub opened : (r : Result Chain Fault) → told r ≡ open_answer o m → IfOk r (λ c. Ascending o (all_pairs o m (leaves_of c)))
+  pub opened : (r : Result (FixedVec ℕ 64) Fault) → told r ≡ open_answer o m → IfOk r (λ c. Ascending o (all_pairs o m (leaves_of c)))
   opened (Ok c) h = book_ascends (leaves_of c) (sym h)
   opened (Err e) h = tt

@@ -1,4 +1,6 @@
 pub mod PairLaws
+pub mod ElementLaws
+pub mod ReduceLaws
 pub mod RunLaws
 pub mod OpeningLaws
 pub mod AscentLaws

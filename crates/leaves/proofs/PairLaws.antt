@@ -1,12 +1,11 @@
 -- What one element more does to the pairs of a leaf.
-use Rattle.std.proofs.Common.{◌≡◌, ℕ, zero, suc, ◌-◌, ◌<◌, true, false, cond, List, [], ◌∷◌, Some, None, sym, refl, ap, ◌∙◌, ⊎_elim, arith}
+use Rattle.std.proofs.Common.{◌≡◌, ℕ, true, false, cond, List, [], ◌∷◌, Some, None, sym, refl, ap, ◌∙◌, ⊎_elim, arith}
 use Rattle.std.proofs.lemmas.Bool.{cases_Bool, both_ways}
 use Rattle.std.proofs.lemmas.Bool.Decides.{nat_tests}
 use Rattle.keys.specs.InWords.{WordKind, WordOrdered}
 use Rattle.leaves.specs.declared.leaf.Element.{Element}
 use Rattle.leaves.specs.declared.leaf.Pair.{Pair}
-use Rattle.leaves.specs.Pairs.{equal, lookup, insert, delete, held, applied, pairs}
-use Rattle.leaves.specs.Layout.{element}
+use Rattle.leaves.specs.Pairs.{equal, lookup, insert, delete, held, applied}
 
 pub equal_true : (a b : ℕ × ℕ) → equal a b ≡ true → a ≡ b
 equal_true a b e =
@@ -48,17 +47,3 @@ module _ (o : WordKind) (ordered : WordOrdered o) where
       let i = lookup_insert w (record { key = e.key; reading = e.reading }) ps in
       let d = lookup_delete w e.key ps in
       grind arith
-
-  pub pairs_step : (m : List ℕ) (l s : ℕ) → 0 < s → pairs o m l s ≡ applied o (element m l (s - 1)) (pairs o m l (s - 1))
-  pairs_step m l zero h = absurd (omega arith)
-  pairs_step m l (suc n) h = let e : suc n - 1 ≡ n = omega arith in rw e
-
-  module _ (m : List ℕ) (l s : ℕ) (some : 0 < s) (w : ℕ × ℕ) (e : Element) (read : e ≡ element m l (s - 1)) where
-    step : lookup w (pairs o m l s) ≡ cond (equal e.key w) (held e) (lookup w (pairs o m l (s - 1)))
-    step = rw (pairs_step m l s some, read) (lookup_applied w (element m l (s - 1)) (pairs o m l (s - 1)))
-
-    pub decided : equal e.key w ≡ true → held e ≡ lookup w (pairs o m l s)
-    decided h = cc (step)
-
-    pub passed : equal e.key w ≡ false → lookup w (pairs o m l (s - 1)) ≡ lookup w (pairs o m l s)
-    passed h = cc (step)

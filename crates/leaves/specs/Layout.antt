@@ -1,5 +1,6 @@
 -- Where words, leaves and elements lie in a memory.
-use Rattle.std.specs.Prelude.{ℕ, ◌+◌, ◌-◌, ◌*◌, ◌≤◌, List, length, slice_index}
+use Rattle.std.specs.Prelude.{ℕ, ◌+◌, ◌-◌, ◌*◌, ◌≤◌, List, map, length, slice_index}
+use Rattle.std.specs.List.{range_with_len}
 use Rattle.leaves.specs.declared.leaf.Element.{Element}
 
 abbrev pub word : List ℕ → ℕ → ℕ
@@ -31,3 +32,7 @@ element m k s = record {
   key = (word m (slot_at k s + 1), word m (slot_at k s + 2));
   reading = word m (slot_at k s + 3);
 }
+
+-- The n oldest elements of leaf k.
+abbrev pub elements : List ℕ → ℕ → ℕ → List Element
+elements m k n = map (element m k) (range_with_len 0 n)

@@ -1,14 +1,16 @@
 -- The answer of opening, for every content of the memory.
-use Rattle.std.specs.Prelude.{ℕ, zero, suc, ◌+◌, ◌-◌, ◌*◌, Bool, true, false, cond, not, ◌&&◌, ◌||◌, List, [], ◌∷◌, ◌++◌, length, take, Some, None, Ok, Err, Option, Result, ◌==◌, nat_le, nat_lt}
+use Rattle.std.specs.Prelude.{ℕ, zero, suc, ◌+◌, ◌-◌, ◌*◌, Bool, true, false, cond, not, ◌&&◌, ◌||◌, List, [], ◌∷◌, ◌++◌, length, Some, None, Ok, Err, Option, Result, ◌==◌, nat_le, nat_lt, map, if◌then◌else◌}
+use Rattle.std.specs.List.{reduce}
 use Rattle.keys.specs.InWords.{WordKind}
 use Rattle.leaves.specs.declared.leaf.Element.{Element}
 use Rattle.leaves.specs.declared.leaf.Pair.{Pair}
 use Rattle.leaves.specs.declared.open.Fault.{Fault}
 use Rattle.refusal.specs.declared.Refusal.{Refusal}
 use Rattle.refusal.specs.declared.Refusal.TheVariants.{WrongLength, WrongMark, OtherKind, LeafCount, BadLink, BadLeaf}
-use Rattle.leaves.specs.declared.open.Chain.{Chain}
+use Rattle.fixed_vec.specs.declared.FixedVec.{FixedVec}
+use Rattle.fixed_vec.specs.Items.{items}
 use Rattle.leaves.specs.Layout.{word, element, next_of, count_of, form_of}
-use Rattle.leaves.specs.Pairs.{lookup, pairs}
+use Rattle.leaves.specs.Pairs.{applied, lookup, pairs}
 
 -- What is told with a refusal: nothing; with a bad link the linking leaf, 0 for the head; with a bad leaf the leaf and the slot.
 abbrev pub plain : Refusal → Fault
@@ -39,6 +41,11 @@ first_bad o m bound k s zero = None
 first_bad o m bound k s (suc n) =
     cond (good o bound (pairs o m k s) (element m k s)) (first_bad o m bound k (s + 1) n) (Some (s + 1))
 
+-- The first bad one of some elements after older ones, of which there are s that come to these pairs.
+abbrev pub first_wrong : WordKind → Option (ℕ × ℕ) → List Pair → ℕ → List Element → Option ℕ
+first_wrong o bound ps s [] = None
+first_wrong o bound ps s (e ∷ es) = cond (good o bound ps e) (first_wrong o bound (applied o e ps) (s + 1) es) (Some (s + 1))
+
 abbrev pub leaf_fault : WordKind → List ℕ → Option (ℕ × ℕ) → Bool → ℕ → Option ℕ
 leaf_fault o m bound alone k =
     cond (nat_le (count_of m k) 16 && form_of m k == 0 && (alone || nat_lt 0 (count_of m k)))
@@ -54,15 +61,19 @@ abbrev pub greatest : WordKind → List ℕ → ℕ → ℕ → Option (ℕ × �
 greatest o m k zero = None
 greatest o m k (suc n) = Some (later o (element m k n).key (greatest o m k n))
 
+-- The greatest key of some elements.
+abbrev pub greatest_key : WordKind → List Element → Option (ℕ × ℕ)
+greatest_key o es = reduce (λ a b. if o.before a b then b else a) (map (λ (e : Element). e.key) es)
+
 abbrev pub member : ℕ → List ℕ → Bool
 member x [] = false
 member x (y ∷ ys) = x == y || member x ys
 
-abbrev pub leaves_of : Chain → List ℕ
-leaves_of c = take c.len c.leaves
+abbrev pub leaves_of : FixedVec ℕ 64 → List ℕ
+leaves_of c = items c
 
 -- An answer of opening with its chain as a list.
-abbrev pub told : Result Chain Fault → Result (List ℕ) Fault
+abbrev pub told : Result (FixedVec ℕ 64) Fault → Result (List ℕ) Fault
 told (Ok c) = Ok (leaves_of c)
 told (Err e) = Err e
 
@@ -71,7 +82,7 @@ abbrev pub ended : ℕ → List ℕ → Result (List ℕ) Fault
 ended from used = cond (from == 0) (Err (bad_link_of 0)) (Ok used)
 
 -- A leaf's fault, or what comes after the leaf.
-abbrev pub checked : ℕ → Option ℕ → Result (List ℕ) Fault → Result (List ℕ) Fault
+abbrev pub checked : {X : Type 0} → ℕ → Option ℕ → Result X Fault → Result X Fault
 checked leaf None r = r
 checked leaf (Some s) r = Err (bad_leaf_of leaf s)
 
@@ -83,6 +94,16 @@ walk o m (suc spare) used bound from link =
     (cond (nat_lt (word m 3) link || member link used) (Err (bad_link_of from))
     (checked link (leaf_fault o m bound (from == 0 && next_of m link == 0) link)
     (walk o m spare (used ++ (link ∷ [])) (greatest o m link (count_of m link)) link (next_of m link))))
+
+-- The number of leaves and the first link, or why the head is none of a book.
+abbrev pub head_answer : WordKind → List ℕ → Result (ℕ × ℕ) Refusal
+head_answer o m =
+    cond (nat_lt (length m) 152) (Err WrongLength)
+    (cond (not (word m 0 == 30366)) (Err WrongMark)
+    (cond (not (word m 1 == o.code)) (Err OtherKind)
+    (cond (nat_lt (word m 3) 2 || nat_lt 64 (word m 3)) (Err LeafCount)
+    (cond (nat_lt (length m) (8 + 72 * word m 3)) (Err WrongLength)
+    (Ok (word m 3, word m 2))))))
 
 -- One leaf always stays free.
 abbrev pub open_answer : WordKind → List ℕ → Result (List ℕ) Fault

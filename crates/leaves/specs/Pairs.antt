@@ -1,9 +1,9 @@
 -- Pairs of key and reading, ascending by key, and the pairs that a leaf's elements come to; a key is its two words.
-use Rattle.std.specs.Prelude.{ℕ, zero, suc, Bool, true, false, cond, ◌&&◌, List, [], ◌∷◌, take, Some, None, Option, ◌==◌}
+use Rattle.std.specs.Prelude.{ℕ, zero, suc, Bool, cond, ◌&&◌, List, [], ◌∷◌, reverse, Some, None, Option, option_and_then, ◌==◌}
+use Rattle.std.specs.List.{find, fold}
 use Rattle.keys.specs.InWords.{WordKind}
 use Rattle.leaves.specs.declared.leaf.Element.{Element}
 use Rattle.leaves.specs.declared.leaf.Pair.{Pair}
-use Rattle.leaves.specs.declared.leaf.Run.{Run}
 use Rattle.leaves.specs.Layout.{element}
 
 abbrev pub equal : ℕ × ℕ → ℕ × ℕ → Bool
@@ -37,18 +37,17 @@ pairs o m k (suc n) = applied o (element m k n) (pairs o m k n)
 
 -- The pair of the smallest key after the given one, of pairs that ascend.
 abbrev pub first_after : WordKind → ℕ × ℕ → List Pair → Option Pair
-first_after o w [] = None
-first_after o w (p ∷ ps) = cond (o.before w p.key) (Some p) (first_after o w ps)
+first_after o w ps = find (λ p. o.before w p.key) ps
 
-abbrev pub listed : Run → List Pair
-listed r = take r.len r.pairs
+-- The pairs that elements come to after some pairs, the oldest element first.
+abbrev pub folded : WordKind → List Pair → List Element → List Pair
+folded o ps es = fold (λ qs e. applied o e qs) ps es
 
--- A pair that is wanted, or none.
-abbrev pub kept : Bool → Pair → List Pair
-kept true p = p ∷ []
-kept false p = []
+-- From a key's place on, the pairs that are not the key's own.
+abbrev pub past_own : WordKind → ℕ × ℕ → List Pair → List Pair
+past_own o w [] = []
+past_own o w (p ∷ ps) = cond (o.before w p.key) (p ∷ ps) ps
 
--- What an insert still adds to the pairs to come.
-abbrev pub to_come : WordKind → Pair → Bool → List Pair → List Pair
-to_come o q true ps = ps
-to_come o q false ps = insert o q ps
+-- What the newest of a key's elements says of it.
+abbrev pub latest : ℕ × ℕ → List Element → Option ℕ
+latest w es = option_and_then held (find (λ e. equal e.key w) (reverse es))

@@ -4,22 +4,23 @@ pub mod check;
 pub mod read;
 pub mod sorted;
 
-#[derive(Clone, Copy)]
+use fixed_vec::FixedVec;
+
+#[derive(Clone, Copy, Default)]
 pub struct Element {
     pub sign: u64,
     pub key: (u64, u64),
     pub reading: u64,
 }
 
-#[derive(Clone, Copy)]
+#[derive(Clone, Copy, Default)]
 pub struct Pair {
     pub key: (u64, u64),
     pub reading: u64,
 }
 
-// Pairs in the order of their keys: the first `len` of `pairs`.
-#[derive(Clone, Copy)]
-pub struct Run {
-    pub pairs: [Pair; 17],
-    pub len: usize,
-}
+// The oldest elements of a leaf, in the order in which they were written.
+pub type Elements = FixedVec<Element, 16>;
+
+// Pairs in the order of their keys: those of a leaf, and one more.
+pub type Run = FixedVec<Pair, 17>;

@@ -1,6 +1,10 @@
 // Opening a memory as a book.
+ghost use Rattle.std.specs.Prelude.{◌≡◌};
+ghost use Rattle.leaves.specs.Opening.{plain};
+
 pub mod walk;
 
+use fixed_vec::FixedVec;
 use refusal::Refusal;
 
 // Why a memory does not open, with what is told beside the refusal: the linking leaf of a bad link, the leaf and the slot of a bad
@@ -12,9 +16,18 @@ pub struct Fault {
     pub slot: usize,
 }
 
-// The linked leaves in their order: the first `len` of `leaves`.
-#[derive(Clone, Copy)]
-pub struct Chain {
-    pub leaves: [usize; 64],
-    pub len: usize,
+// A refusal beside which nothing is told.
+impl From<Refusal> for Fault {
+    ghost from_gives = { λ refusal fault. fault ≡ plain refusal };
+
+    fn from(refusal: Refusal) -> Self {
+        Fault {
+            refusal,
+            leaf: 0,
+            slot: 0,
+        }
+    }
 }
+
+// The linked leaves in their order.
+pub type Chain = FixedVec<usize, 64>;

@@ -7,7 +7,7 @@ ghost use Rattle.leaves.specs.Pairs.{first_after, lookup, pairs};
 
 use super::Pair;
 use crate::leaf::check::greatest;
-use crate::leaf::read::{find, word_at};
+use crate::leaf::read::{elements, find, word_at};
 use crate::leaf::sorted::{load, next};
 use keys::Key;
 use memory::Memory;
@@ -38,7 +38,8 @@ pub fn find_in<K: Key, M: Memory>(
     ensures value { result ≡ counted (M.Memory.meaning memory.old).live leaf (λ n. lookup key (pairs (in_words K.Key.kind) (M.Memory.meaning memory.old).live leaf n)) }
 {
     let count = count_in(memory, leaf)?;
-    Ok(find::<K, M>(memory, leaf, count, key))
+    let elements = elements(memory, leaf, count);
+    Ok(find(elements.as_slice(), key))
 }
 
 // The pair of the smallest key of the leaf that is after the given one, if there is one.
@@ -51,8 +52,9 @@ pub fn next_in<K: Key, M: Memory>(
     ensures value { result ≡ counted (M.Memory.meaning memory.old).live leaf (λ n. first_after (in_words K.Key.kind) key (pairs (in_words K.Key.kind) (M.Memory.meaning memory.old).live leaf n)) }
 {
     let count = count_in(memory, leaf)?;
-    let run = load::<K, M>(memory, leaf, count);
-    Ok(next::<K>(&run, key))
+    let elements = elements(memory, leaf, count);
+    let run = load::<K>(&elements);
+    Ok(next::<K>(run.as_slice(), key))
 }
 
 // How many pairs the leaf has.
@@ -61,8 +63,9 @@ pub fn pairs_in<K: Key, M: Memory>(memory: &mut M, leaf: usize) -> Result<usize,
     ensures value { result ≡ counted (M.Memory.meaning memory.old).live leaf (λ n. length (pairs (in_words K.Key.kind) (M.Memory.meaning memory.old).live leaf n)) }
 {
     let count = count_in(memory, leaf)?;
-    let run = load::<K, M>(memory, leaf, count);
-    Ok(run.len)
+    let elements = elements(memory, leaf, count);
+    let run = load::<K>(&elements);
+    Ok(run.len())
 }
 
 // The greatest key that the leaf counts, if it counts one.
@@ -74,5 +77,6 @@ pub fn greatest_in<K: Key, M: Memory>(
     ensures value { result ≡ counted (M.Memory.meaning memory.old).live leaf (greatest_of (in_words K.Key.kind) (M.Memory.meaning memory.old).live leaf) }
 {
     let count = count_in(memory, leaf)?;
-    Ok(greatest::<K, M>(memory, leaf, count))
+    let elements = elements(memory, leaf, count);
+    Ok(greatest::<K>(elements.as_slice()))
 }

@@ -1,14 +1,16 @@
 // Checking one leaf, for every content of the memory.
-ghost use Rattle.std.specs.Prelude.{◌≡◌, ℕ, ◌<◌, ◌≤◌, List};
+ghost use Rattle.std.specs.Prelude.{◌≡◌, ◌&&◌, ◌||◌, ◌==◌, [], Ok, nat_le, nat_lt};
 ghost use Rattle.keys.specs.InWords.{in_words};
-ghost use Rattle.leaves.specs.Layout.{Within, element as element_at, count_of};
-ghost use Rattle.leaves.specs.Pairs.{pairs};
-ghost use Rattle.leaves.specs.Opening.{sign_fits, after as after_bound, good as good_element, first_bad, leaf_fault, later as later_of, greatest as greatest_of};
+ghost use Rattle.leaves.specs.Layout.{Within, count_of};
+ghost use Rattle.leaves.specs.Pairs.{folded};
+ghost use Rattle.leaves.specs.Opening.{sign_fits, after as after_bound, bad_leaf_of, good as good_element, first_wrong, leaf_fault, checked, greatest as greatest_of, greatest_key};
 
 use super::Element;
-use crate::leaf::read::{element, find, word_at};
-use keys::Key;
+use crate::leaf::read::{elements, find, word_at};
+use crate::open::Fault;
+use keys::{Key, greater};
 use memory::Memory;
+use refusal::Refusal;
 
 // Whether two words are a key.
 fn is_key<K: Key>(words: (u64, u64)) -> bool
@@ -29,86 +31,78 @@ fn fits(e: Element, held: Option<u64>) -> bool
 fn after<K: Key>(bound: Option<(u64, u64)>, key: (u64, u64)) -> bool
     ensures { result ≡ after_bound (in_words K.Key.kind) bound key }
 {
-    match bound {
-        None => true,
-        Some(b) => K::pair_before(b, key),
+    bound.is_none_or(|b| K::pair_before(b, key))
+}
+
+// Whether an element is good after the older ones of its leaf and the bound of the leaf before.
+fn good<K: Key>(older: &[Element], e: Element, bound: Option<(u64, u64)>) -> bool
+    ensures { result ≡ good_element (in_words K.Key.kind) bound (folded (in_words K.Key.kind) [] older.now) e }
+{
+    is_key::<K>(e.key) && after::<K>(bound, e.key) && fits(e, find(older, e.key))
+}
+
+// A leaf with a fault in a slot, counted from 1, or as a whole.
+fn bad_leaf(leaf: usize, slot: usize) -> Fault
+    ensures { result ≡ bad_leaf_of leaf slot }
+{
+    Fault {
+        refusal: Refusal::BadLeaf,
+        leaf,
+        slot,
     }
 }
 
-fn good<K: Key, M: Memory>(
-    memory: &mut M,
+// The fault of the first bad element, if one of them is bad.
+fn check_each<K: Key>(
     leaf: usize,
-    slot: usize,
+    elements: &[Element],
     bound: Option<(u64, u64)>,
-) -> bool
-    requires { (Within (M.Memory.meaning memory.old).live leaf) × (slot < 16) }
-    ensures same { M.Memory.meaning memory.new ≡ M.Memory.meaning memory.old }
-    ensures value { result ≡ good_element (in_words K.Key.kind) bound (pairs (in_words K.Key.kind) (M.Memory.meaning memory.old).live leaf slot) (element_at (M.Memory.meaning memory.old).live leaf slot) }
+) -> Result<(), Fault>
+    ensures { result ≡ checked leaf (first_wrong (in_words K.Key.kind) bound [] 0 elements.now) (Ok tt) }
 {
-    let e = element(memory, leaf, slot);
-    let held = find::<K, M>(memory, leaf, slot, e.key);
-    is_key::<K>(e.key) & after::<K>(bound, e.key) & fits(e, held)
-}
-
-fn first_fault<K: Key, M: Memory>(
-    memory: &mut M,
-    leaf: usize,
-    count: usize,
-    bound: Option<(u64, u64)>,
-) -> Option<usize>
-    requires { (Within (M.Memory.meaning memory.old).live leaf) × (count ≤ 16) }
-    ensures same { M.Memory.meaning memory.new ≡ M.Memory.meaning memory.old }
-    ensures value { result ≡ first_bad (in_words K.Key.kind) (M.Memory.meaning memory.old).live bound leaf 0 count }
-{
-    for slot in 0..count {
-        if !good::<K, M>(memory, leaf, slot, bound) {
-            return Some(slot + 1);
+    for (slot, e) in elements.iter().enumerate() {
+        if !good::<K>(&elements[..slot], *e, bound) {
+            return Err(bad_leaf(leaf, slot + 1));
         }
     }
-    None
+    Ok(())
 }
 
-pub(crate) fn fault<K: Key, M: Memory>(
+// The greatest key of the elements, if there are any.
+pub(crate) fn greatest<K: Key>(elements: &[Element]) -> Option<(u64, u64)>
+    ensures { result ≡ greatest_key (in_words K.Key.kind) elements.now }
+{
+    elements
+        .iter()
+        .map(|e| e.key)
+        .reduce(|a, b| greater::<K>(a, b))
+}
+
+// Whether a leaf can be one of a chain, by what it counts, its form, and whether it is the only one.
+fn can_stand(count: u64, form: u64, alone: bool) -> bool
+    ensures { result ≡ (nat_le count 16 && form == 0 && (alone || nat_lt 0 count)) }
+{
+    count <= 16 && form == 0 && (alone || count > 0)
+}
+
+// The bound for the next leaf, which is the greatest key of this one, or the fault of this one.
+pub(crate) fn check<K: Key, M: Memory>(
     memory: &mut M,
     leaf: usize,
     bound: Option<(u64, u64)>,
     alone: bool,
-) -> Option<usize>
+) -> Result<Option<(u64, u64)>, Fault>
     requires { Within (M.Memory.meaning memory.old).live leaf }
     ensures same { M.Memory.meaning memory.new ≡ M.Memory.meaning memory.old }
-    ensures value { result ≡ leaf_fault (in_words K.Key.kind) (M.Memory.meaning memory.old).live bound alone leaf }
+    ensures value { result ≡ checked leaf (leaf_fault (in_words K.Key.kind) (M.Memory.meaning memory.old).live bound alone leaf) (Ok (greatest_of (in_words K.Key.kind) (M.Memory.meaning memory.old).live leaf (count_of (M.Memory.meaning memory.old).live leaf))) }
 {
     let start = 8 + 72 * (leaf - 1);
     let count = word_at(memory, start + 1);
     let form = word_at(memory, start + 2);
-    if count > 16 || form != 0 || !(alone || count > 0) {
-        return Some(0);
+    if !can_stand(count, form, alone) {
+        return Err(bad_leaf(leaf, 0));
     }
-    first_fault::<K, M>(memory, leaf, count as usize, bound)
-}
-
-fn later<K: Key>(key: (u64, u64), best: Option<(u64, u64)>) -> (u64, u64)
-    ensures { result ≡ later_of (in_words K.Key.kind) key best }
-{
-    match best {
-        None => key,
-        Some(b) => { if K::pair_before(b, key) { key } else { b } }
-    }
-}
-
-pub(crate) fn greatest<K: Key, M: Memory>(
-    memory: &mut M,
-    leaf: usize,
-    count: usize,
-) -> Option<(u64, u64)>
-    requires { (Within (M.Memory.meaning memory.old).live leaf) × (count ≤ 16) }
-    ensures same { M.Memory.meaning memory.new ≡ M.Memory.meaning memory.old }
-    ensures value { result ≡ greatest_of (in_words K.Key.kind) (M.Memory.meaning memory.old).live leaf count }
-{
-    let mut best = None;
-    for slot in 0..count {
-        let e = element(memory, leaf, slot);
-        best = Some(later::<K>(e.key, best));
-    }
-    best
+    let elements = elements(memory, leaf, count as usize);
+    check_each::<K>(leaf, elements.as_slice(), bound)?;
+    Ok(greatest::<K>(elements.as_slice()))
 }

@@ -1,11 +1,10 @@
-// Words, elements and pairs of one leaf, for every content of the memory.
+// Words and elements of one leaf, for every content of the memory.
 ghost use Rattle.std.specs.Prelude.{◌≡◌, ◌<◌, ◌≤◌, length};
-ghost use Rattle.keys.specs.InWords.{in_words};
-ghost use Rattle.leaves.specs.Layout.{word, Within, element as element_at};
-ghost use Rattle.leaves.specs.Pairs.{equal, held as held_by, lookup, pairs};
+ghost use Rattle.fixed_vec.specs.Items.{items};
+ghost use Rattle.leaves.specs.Layout.{word, Within, element as element_at, elements as elements_of};
+ghost use Rattle.leaves.specs.Pairs.{held as held_by, latest};
 
-use super::Element;
-use keys::Key;
+use super::{Element, Elements};
 use memory::Memory;
 
 pub(crate) fn word_at<M: Memory>(memory: &mut M, at: usize) -> u64
@@ -13,10 +12,8 @@ pub(crate) fn word_at<M: Memory>(memory: &mut M, at: usize) -> u64
     ensures same { M.Memory.meaning memory.new ≡ M.Memory.meaning memory.old }
     ensures value { result ≡ word (M.Memory.meaning memory.old).live at }
 {
-    match memory.read(at) {
-        Ok(w) => w,
-        Err(_) => unreachable(),
-    }
+    // a word within the memory is always read
+    memory.read(at).unwrap_or(0)
 }
 
 pub(crate) fn element<M: Memory>(memory: &mut M, leaf: usize, slot: usize) -> Element
@@ -36,35 +33,34 @@ pub(crate) fn element<M: Memory>(memory: &mut M, leaf: usize, slot: usize) -> El
     }
 }
 
-pub(crate) fn same_words(a: (u64, u64), b: (u64, u64)) -> bool
-    ensures { result ≡ equal a b }
+// The oldest `count` elements of the leaf.
+pub(crate) fn elements<M: Memory>(memory: &mut M, leaf: usize, count: usize) -> Elements
+    requires { (Within (M.Memory.meaning memory.old).live leaf) × (count ≤ 16) }
+    ensures same { M.Memory.meaning memory.new ≡ M.Memory.meaning memory.old }
+    ensures value { items result ≡ elements_of (M.Memory.meaning memory.old).live leaf count }
 {
-    a.0 == b.0 && a.1 == b.1
+    let mut read = Elements::new(Element::default());
+    for slot in 0..count {
+        let _ = read.push(element(memory, leaf, slot));
+    }
+    read
 }
 
 // What an element says of its key.
-pub(crate) fn held(e: Element) -> Option<u64>
+fn held(e: Element) -> Option<u64>
     ensures { result ≡ held_by e }
 {
-    if e.sign == 1 { Some(e.reading) } else { None }
+    (e.sign == 1).then_some(e.reading)
 }
 
-// The reading that the oldest `count` elements of the leaf leave the key with.
-pub(crate) fn find<K: Key, M: Memory>(
-    memory: &mut M,
-    leaf: usize,
-    count: usize,
-    key: (u64, u64),
-) -> Option<u64>
-    requires { (Within (M.Memory.meaning memory.old).live leaf) × (count ≤ 16) }
-    ensures same { M.Memory.meaning memory.new ≡ M.Memory.meaning memory.old }
-    ensures value { result ≡ lookup key (pairs (in_words K.Key.kind) (M.Memory.meaning memory.old).live leaf count) }
+// The reading that the elements leave the key with.
+pub(crate) fn find(elements: &[Element], key: (u64, u64)) -> Option<u64>
+    ensures { result ≡ latest key elements.now }
 {
-    for slot in (0..count).rev() {
-        let e = element(memory, leaf, slot);
-        if same_words(e.key, key) {
-            return held(e);
-        }
-    }
-    None
+    elements
+        .iter()
+        .rev()
+        .find(|e| e.key == key)
+        .copied()
+        .and_then(held)
 }

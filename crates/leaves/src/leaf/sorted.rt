@@ -1,92 +1,70 @@
 // The pairs of a leaf as a run in the order of their keys, for every content of the memory.
-ghost use Rattle.std.specs.Prelude.{◌≡◌, ◌+◌, ◌<◌, ◌≤◌, true, [], ◌∷◌, ◌++◌, length, if◌then◌else◌};
+ghost use Rattle.std.specs.Prelude.{◌≡◌, ◌≤◌, [], length};
+ghost use Rattle.std.specs.List.{prefix_len};
+ghost use Rattle.fixed_vec.specs.Items.{items};
 ghost use Rattle.keys.specs.InWords.{in_words};
-ghost use Rattle.leaves.specs.Layout.{Within};
-ghost use Rattle.leaves.specs.Pairs.{listed, insert, delete, kept, applied as applied_to, pairs as pairs_of, first_after};
+ghost use Rattle.leaves.specs.Pairs.{insert, delete, applied as applied_to, folded, first_after, past_own};
 
-use super::{Element, Pair, Run};
-use crate::leaf::read::{element, same_words};
+use super::{Element, Elements, Pair, Run};
 use keys::Key;
-use memory::Memory;
 
 fn empty() -> Run
-    ensures list { listed result ≡ [] }
-    ensures len { result.len ≡ 0 }
-    ensures room { length result.pairs ≡ 17 }
+    ensures { items result ≡ [] }
 {
-    Run {
-        pairs: [Pair {
-            key: (0, 0),
-            reading: 0,
-        }; 17],
-        len: 0,
-    }
-}
-
-fn push(run: &mut Run, pair: Pair)
-    requires { (run.old.len < 17) × (length run.old.pairs ≡ 17) }
-    ensures list { listed run.new ≡ listed run.old ++ (pair ∷ []) }
-    ensures len { run.new.len ≡ run.old.len + 1 }
-    ensures room { length run.new.pairs ≡ 17 }
-{
-    run.pairs[run.len] = pair;
-    run.len += 1;
-}
-
-fn push_if(run: &mut Run, pair: Pair, wanted: bool)
-    requires { ((wanted ≡ true → run.old.len < 17)) × (length run.old.pairs ≡ 17) }
-    ensures list { listed run.new ≡ listed run.old ++ kept wanted pair }
-    ensures len { run.new.len ≡ run.old.len + (if wanted then 1 else 0) }
-    ensures room { length run.new.pairs ≡ 17 }
-{
-    if wanted {
-        push(run, pair);
-    }
+    Run::new(Pair::default())
 }
 
 // The pairs without the key's.
 fn deleted(run: &Run, key: (u64, u64)) -> Run
-    requires { (run.now.len ≤ 16) × (length run.now.pairs ≡ 17) }
-    ensures list { listed result ≡ delete key (listed run.now) }
-    ensures len { result.len ≤ run.now.len }
-    ensures room { length result.pairs ≡ 17 }
+    ensures { items result ≡ delete key (items run.now) }
 {
     let mut out = empty();
-    for i in 0..run.len {
-        let p = run.pairs[i];
-        let same = same_words(p.key, key);
-        push_if(&mut out, p, !same);
+    for pair in run.as_slice() {
+        if pair.key != key {
+            let _ = out.push(*pair);
+        }
     }
     out
+}
+
+// How many pairs stand before the key's place.
+fn place<K: Key>(pairs: &[Pair], key: (u64, u64)) -> usize
+    ensures { result ≡ prefix_len (λ p. (in_words K.Key.kind).before p.key key) pairs.now }
+{
+    pairs
+        .iter()
+        .take_while(|p| K::pair_before(p.key, key))
+        .count()
+}
+
+// The pairs from the key's place on, without the key's own.
+fn past_key<K: Key>(pairs: &[Pair], key: (u64, u64)) -> &[Pair]
+    ensures { result.now ≡ past_own (in_words K.Key.kind) key pairs.now }
+{
+    match pairs.split_first() {
+        Some((first, others)) if !K::pair_before(key, first.key) => others,
+        _ => pairs,
+    }
 }
 
 // The pairs with this one in its place.
 fn inserted<K: Key>(run: &Run, pair: Pair) -> Run
-    requires { (run.now.len ≤ 16) × (length run.now.pairs ≡ 17) }
-    ensures list { listed result ≡ insert (in_words K.Key.kind) pair (listed run.now) }
-    ensures len { result.len ≤ run.now.len + 1 }
-    ensures room { length result.pairs ≡ 17 }
+    requires { length (items run.now) ≤ 16 }
+    ensures { items result ≡ insert (in_words K.Key.kind) pair (items run.now) }
 {
+    let pairs = run.as_slice();
+    let (smaller, rest) = pairs.split_at(place::<K>(pairs, pair.key));
+    let larger = past_key::<K>(rest, pair.key);
     let mut out = empty();
-    let mut placed = false;
-    for i in 0..run.len {
-        let p = run.pairs[i];
-        let smaller = K::pair_before(p.key, pair.key);
-        let larger = K::pair_before(pair.key, p.key);
-        let here = !placed & !smaller;
-        push_if(&mut out, pair, here);
-        push_if(&mut out, p, !here | larger);
-        placed = placed | here;
-    }
-    push_if(&mut out, pair, !placed);
+    let _ = out.extend_from_slice(smaller);
+    let _ = out.push(pair);
+    let _ = out.extend_from_slice(larger);
     out
 }
 
 fn applied<K: Key>(run: &Run, e: Element) -> Run
-    requires { (run.now.len ≤ 16) × (length run.now.pairs ≡ 17) }
-    ensures list { listed result ≡ applied_to (in_words K.Key.kind) e (listed run.now) }
-    ensures len { result.len ≤ run.now.len + 1 }
-    ensures room { length result.pairs ≡ 17 }
+    requires { length (items run.now) ≤ 16 }
+    ensures { items result ≡ applied_to (in_words K.Key.kind) e (items run.now) }
 {
     if e.sign == 1 {
         inserted::<K>(
@@ -101,32 +79,20 @@ fn applied<K: Key>(run: &Run, e: Element) -> Run
     }
 }
 
-// The pairs of the oldest `count` elements of the leaf.
-pub(crate) fn load<K: Key, M: Memory>(memory: &mut M, leaf: usize, count: usize) -> Run
-    requires { (Within (M.Memory.meaning memory.old).live leaf) × (count ≤ 16) }
-    ensures same { M.Memory.meaning memory.new ≡ M.Memory.meaning memory.old }
-    ensures list { listed result ≡ pairs_of (in_words K.Key.kind) (M.Memory.meaning memory.old).live leaf count }
-    ensures len { result.len ≤ count }
-    ensures room { length result.pairs ≡ 17 }
+// The pairs that the elements come to.
+pub(crate) fn load<K: Key>(elements: &Elements) -> Run
+    ensures { items result ≡ folded (in_words K.Key.kind) [] (items elements.now) }
 {
     let mut run = empty();
-    for slot in 0..count {
-        let e = element(memory, leaf, slot);
-        run = applied::<K>(&run, e);
+    for e in elements.as_slice() {
+        run = applied::<K>(&run, *e);
     }
     run
 }
 
 // The first pair after the key.
-pub(crate) fn next<K: Key>(run: &Run, key: (u64, u64)) -> Option<Pair>
-    requires { (run.now.len ≤ 17) × (length run.now.pairs ≡ 17) }
-    ensures { result ≡ first_after (in_words K.Key.kind) key (listed run.now) }
+pub(crate) fn next<K: Key>(pairs: &[Pair], key: (u64, u64)) -> Option<Pair>
+    ensures { result ≡ first_after (in_words K.Key.kind) key pairs.now }
 {
-    for i in 0..run.len {
-        let p = run.pairs[i];
-        if K::pair_before(key, p.key) {
-            return Some(p);
-        }
-    }
-    None
+    pairs.iter().find(|p| K::pair_before(key, p.key)).copied()
 }

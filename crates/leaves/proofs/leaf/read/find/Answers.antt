@@ -1,20 +1,11 @@
-use Rattle.keys.proofs.WordLaws.{in_words_ordered}
-use Rattle.keys.specs.InWords.{in_words}
-use Rattle.std.proofs.Common.{◌≡◌, ◌-◌, ◌∙◌}
-use Rattle.leaves.specs.Layout.{element}
-use Rattle.leaves.proofs.PairLaws.{decided, passed}
+use Rattle.std.proofs.Common.{◌∙◌, rules, tests, arith}
+use Rattle.std.proofs.lemmas.Iterator.Adapters.{YieldsList-from_rev_slice}
+use Rattle.std.proofs.lemmas.Iterator.Search.{find_from_yields_List}
+use Rattle.leaves.specs.declared.leaf.Element.{Element}
+use Rattle.leaves.specs.Pairs.{equal}
 use Rattle.leaves.proofs.leaf.read.find.Goals as goal
 
-pub returns-then-same_words : goal.returns-then-same_words
-returns-then-same_words g c =
-    let m = (g.M.Memory.meaning c.args.memory.now).live in
-    let read : c.element-e.result ≡ element m c.args.leaf (c.loop-slot.slot - 1) = cc in
-    let d = decided (in_words g.K.Key.kind) (in_words_ordered g.K.Key.kind g.met.K.Key.ordered g.met.K.Key.formed) m c.args.leaf _ c.loop-slot-test.true c.args.key c.element-e.result read (cc) in
-    record { same = cc; value = c.held.ensures ∙ d ∙ c.loop-slot.invariant.1 }
-
-pub loop-slot-preserved : goal.loop-slot-preserved
-loop-slot-preserved g c =
-    let m = (g.M.Memory.meaning c.args.memory.now).live in
-    let read : c.element-e.result ≡ element m c.args.leaf (c.loop-slot.slot - 1) = cc in
-    let d = passed (in_words g.K.Key.kind) (in_words_ordered g.K.Key.kind g.met.K.Key.ordered g.met.K.Key.formed) m c.args.leaf _ c.loop-slot-test.true c.args.key c.element-e.result read (cc) in
-    (cc, d ∙ c.loop-slot.invariant.1)
+pub returns : goal.returns
+returns c =
+    let newest = c.copied.ensures ∙ find_from_yields_List (λ (e : Element). equal e.key c.args.key) _ _ c.find.result c.find.ensures.ran (YieldsList-from_rev_slice c.args.elements.now cc) (λ x b q k. search (rules, tests)) in
+    grind arith

@@ -8,9 +8,8 @@ invariant-loop-link g l =
     let o = in_words g.K.Key.kind in
     let m = (g.M.Memory.meaning l.initial.memory).live in
     (g.M.Memory.meaning l.memory ≡ g.M.Memory.meaning l.initial.memory)
-    × (l.chain.len + 1 ≤ l.leaves)
-    × (length l.chain.leaves ≡ 64)
-    × (walk o m (l.leaves - 1 - l.chain.len) (leaves_of l.chain) l.bound l.from l.link ≡ walk o m (l.leaves - 1) [] None 0 l.first)
+    × (length (leaves_of l.chain) + 1 ≤ l.leaves)
+    × (walk o m (l.leaves - 1 - length (leaves_of l.chain)) (leaves_of l.chain) l.bound l.from l.link ≡ walk o m (l.leaves - 1) [] None 0 l.first)
 
 abbrev pub decreases-loop-link : goal.decreases-loop-link
-decreases-loop-link g l = l.leaves - l.chain.len
+decreases-loop-link g l = l.leaves - length (leaves_of l.chain)
