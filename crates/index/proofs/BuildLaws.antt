@@ -1,28 +1,38 @@
 -- Each node of an index built anew.
-use Rattle.std.proofs.Common.{◌≡◌, ℕ, zero, suc, ◌+◌, ◌-◌, ◌*◌, ◌<◌, ◌≤◌, min, true, cond, ltb, leb, List, [], ◌∷◌, ◌++◌, map, length, get_or, take, drop, set, sym, refl, ap, ◌∙◌, ⊎_elim, append_assoc, append-nil, arith, length-drop, length-take, get_or-drop, take_all, get_or-take, drop-drop, ext_get_or}
-use lib.ListN
+use Rattle.std.proofs.Common.{◌≡◌, ℕ, zero, suc, ◌+◌, ◌-◌, ◌*◌, ◌<◌, ◌≤◌, min, true, cond, ltb, leb, List, [], ◌∷◌, ◌++◌, map, length, get_or, take, drop, sym, refl, ap, ◌∙◌, subst, ◌≢◌, ⊎_elim, append_assoc, append-nil, arith, length-append, length-drop, length-take, get_or-drop, take_all, get_or-take, drop-drop, ext_get_or}
 use lib.ListN.{length-map}
-use lib.Seq.{map-set}
-use Rattle.std.proofs.lemmas.List.Edits.{fill_by_more}
-use Rattle.std.proofs.lemmas.Bool.{cond-true, cond-false, cond_both, le-ltb, lt-ltb, le-leb, lt-leb, eq-eqb, ne_eqb, cases_lt, and_parts, and_from, eqb-true, false≢true}
-use Rattle.std.proofs.lemmas.List.{drop_more, drop_all, get_or-map, get_or_past, take-map, drop-map}
+use mathlib.Core.List.{map-append}
+use Rattle.std.proofs.lemmas.Bool.{cond-true, cond-false, cond_both, le-ltb, lt-ltb, le-leb, lt-leb, eq-eqb, ne_eqb, cases_lt, and_parts, and_from, eqb-true, cases_eq, false≢true}
+use Rattle.std.proofs.lemmas.List.{drop_all, drop_at, take_at, map_more, nil_from_length, get_or-map, get_or_past, take-map, drop-map}
+use denote.Param.Members.{Mut}
+use Rattle.std.specs.Fn.{Called}
+use Rattle.std.specs.Array.{IsFromFnResultFrom}
 use Rattle.index.specs.declared.node.Entry.{Entry}
 use Rattle.index.specs.declared.node.Node.{Node}
+use Rattle.fixed_vec.specs.Items.{joined}
 use Rattle.index.specs.Nodes.{items, bounds, entry}
 use Rattle.index.specs.Search.{concat, last, Full, Small}
+use Rattle.index.proofs.NodeLaws.{fits}
 use Rattle.index.specs.Shape.{numbered, rows, singles, lasts, table, upper, lowest, same, groups, Sound}
 
-module _ (n : ℕ) (es : List Entry) where
-  pub children_start : {out : List Entry} → out ≡ [] → out ++ numbered (n + 0) (bounds (drop 0 es)) ≡ numbered n (bounds es)
-  children_start e = let z : n + 0 ≡ n = omega arith in rw (e, z)
+pub length_numbered : (n : ℕ) (bs : List (ℕ × ℕ)) → length (numbered n bs) ≡ length bs
+length_numbered n [] = refl
+length_numbered n (b ∷ bs) = ap suc (length_numbered (n + 1) bs)
 
-  pub children_turn : (i : ℕ) (d : Entry) (out : List Entry) {more all : List Entry} → i < length es → out ++ numbered (n + i) (bounds (drop i es)) ≡ all → more ≡ out ++ (entry (n + i) (get_or es i d).bound ∷ []) → more ++ numbered (n + (i + 1)) (bounds (drop (i + 1) es)) ≡ all
-  children_turn i d out h rest push =
-      let z : n + (i + 1) ≡ n + i + 1 = omega arith in
-      rw (push, z) (append_assoc out _ _ ∙ ap (λ xs. out ++ numbered (n + i) (bounds xs)) (sym (drop_more es i d h)) ∙ rest)
+numbered_more : (n : ℕ) (bs : List (ℕ × ℕ)) (b : ℕ × ℕ) → numbered n (bs ++ (b ∷ [])) ≡ numbered n bs ++ (entry (n + length bs) b ∷ [])
+numbered_more n [] b = let z : n + 0 ≡ n = omega arith in rw z
+numbered_more n (c ∷ bs) b = let z : n + suc (length bs) ≡ n + 1 + length bs = omega arith in rw z (ap (λ xs. entry n c ∷ xs) (numbered_more (n + 1) bs b))
 
-  pub children_end : (i : ℕ) (out : List Entry) {all : List Entry} → length es ≤ i → out ++ numbered (n + i) (bounds (drop i es)) ≡ all → out ≡ all
-  children_end i out h rest = sym (append-nil out) ∙ ap (λ xs. out ++ numbered (n + i) (bounds xs)) (sym (drop_all i es h)) ∙ rest
+-- One more child.
+pub children_turn : (n : ℕ) (es : List Entry) (i : ℕ) (d : Entry) {out more : List Entry} → i < length es → length es ≤ 9 → out ≡ numbered n (bounds (take i es)) → length out ≡ i
+    → more ≡ joined 9 out (entry (n + i) (get_or es i d).bound ∷ []) → (more ≡ numbered n (bounds (take (i + 1) es))) × (length more ≡ i + 1)
+children_turn n es i d {out} {more} h k is long push =
+    let b = (get_or es i d).bound in
+    let added : more ≡ out ++ (entry (n + i) b ∷ []) = push ∙ fits 9 out (entry (n + i) b ∷ []) (omega arith) in
+    let at : length (bounds (take i es)) ≡ i = sym (length_numbered n (bounds (take i es))) ∙ sym (ap length is) ∙ long in
+    let same : numbered n (bounds (take (i + 1) es)) ≡ numbered n (bounds (take i es)) ++ (entry (n + i) b ∷ []) =
+    ap (numbered n) (map_more (λ (e : Entry). e.bound) es i d h) ∙ rw at at (numbered_more n (bounds (take i es)) b) in
+    (added ∙ ap (λ xs. xs ++ (entry (n + i) b ∷ [])) is ∙ sym same, omega (arith, simp length-append at (ap length added)))
 
 pub single_within : (es : List Entry) (i : ℕ) (d : Entry) {p q : List Entry} → i < length es → p ≡ [] → q ≡ p ++ (get_or es i d ∷ []) → q ≡ get_or (singles es) i []
 single_within es i d h e f = rw (f, e) (sym (get_or-map (λ x. x ∷ []) es i d [] h))
@@ -31,9 +41,21 @@ pub single_past : (es : List Entry) (i : ℕ) {p : List Entry} → length es ≤
 single_past es i h e = e ∙ sym (get_or_past (singles es) i [] (simp length-map h))
 
 -- Rows of nine.
-rows_cons : {X : Type 0} (k : ℕ) (xs : List X) → 0 < length xs → rows (suc k) xs ≡ take 9 xs ∷ rows k (drop 9 xs)
-rows_cons k [] h = absurd (omega arith)
-rows_cons k (x ∷ xs) h = refl
+pub rows_next : {X : Type 0} (k : ℕ) (xs row rest : List X) → xs ≡ row ++ rest → length row ≡ min 9 (length xs) → 0 < length xs → rows (suc k) xs ≡ row ∷ rows k rest
+rows_next k [] row rest e n h = absurd (omega arith)
+rows_next k (x ∷ xs) row rest e n h =
+    let long : length (x ∷ xs) ≡ length row + length rest = ap length e ∙ length-append row rest in
+    let first : take 9 (row ++ rest) ≡ row =
+    ⊎_elim
+    (λ (l : length row < 9). rw (nil_from_length rest (omega arith), append-nil) (take_all 9 row (omega arith)))
+    (λ (l : 9 ≤ length row). take_at row rest 9 (omega arith))
+    (cases_lt (length row) 9) in
+    let second : drop 9 (row ++ rest) ≡ rest =
+    ⊎_elim
+    (λ (l : length row < 9). rw (nil_from_length rest (omega arith), append-nil) (drop_all 9 row (omega arith)))
+    (λ (l : 9 ≤ length row). drop_at row rest 9 (omega arith))
+    (cases_lt (length row) 9) in
+    ap (λ ys. take 9 ys ∷ rows k (drop 9 ys)) e ∙ ap (λ ys. ys ∷ rows k (drop 9 (row ++ rest))) first ∙ ap (λ ys. row ∷ rows k ys) second
 
 no_more_rows : {X : Type 0} (k : ℕ) → rows {X = X} k [] ≡ []
 no_more_rows zero = refl
@@ -52,32 +74,27 @@ last_at [] h = absurd (omega arith)
 last_at (x ∷ []) h = refl
 last_at (x ∷ y ∷ xs) h = last_at (y ∷ xs) (omega arith) ∙ (let z : length (x ∷ y ∷ xs) - 1 ≡ suc (length (y ∷ xs) - 1) = omega arith in rw z)
 
-last_row : (bs : List (ℕ × ℕ)) (q : ℕ) → 9 * q < length bs → last (take 9 (drop (9 * q) bs)) ≡ get_or bs (min (length bs) (9 * q + 9) - 1) (0, 0)
-last_row bs q h =
-    let row = take 9 (drop (9 * q) bs) in
-    let long : length row ≡ min 9 (length bs - 9 * q) = simp (length-take, length-drop) in
-    let at : 9 * q + (length row - 1) ≡ min (length bs) (9 * q + 9) - 1 = omega arith in
-    last_at row (omega arith) ∙ get_or-take 9 (drop (9 * q) bs) (length row - 1) (0, 0) (omega arith) ∙ get_or-drop (9 * q) bs (length row - 1) (0, 0) ∙ ap (λ n. get_or bs n (0, 0)) at
+-- One more child of the root, the row first in the rest.
+pub root_turn : (q : ℕ) (d : Entry) (rest row more out : List Entry) {out' all : List Entry} → rest ≡ row ++ more → length row ≡ min 9 (length rest) → 0 < length rest → 9 * q + length rest ≤ 81 → length out ≡ q
+    → out ++ numbered (1 + q) (map last (rows (9 - q) (bounds rest))) ≡ all → out' ≡ joined 9 out (entry (1 + q) (get_or row (length row - 1) d).bound ∷ [])
+    → (out' ++ numbered (1 + (q + 1)) (map last (rows (9 - (q + 1)) (bounds more))) ≡ all) × (length out' ≡ q + 1) × (9 * (q + 1) + length more ≤ 81)
+root_turn q d rest row more out {out'} {all} e n h room long so push =
+    let b = (get_or row (length row - 1) d).bound in
+    let parts : length rest ≡ length row + length more = ap length e ∙ length-append row more in
+    let fuel : 9 - q ≡ suc (9 - (q + 1)) = omega arith in
+    let number : 1 + (q + 1) ≡ 1 + q + 1 = omega arith in
+    let bounds_parts : bounds rest ≡ bounds row ++ bounds more = ap bounds e ∙ map-append (λ (x : Entry). x.bound) row more in
+    let many : length (bounds rest) ≡ length rest = simp length-map in
+    let few : length (bounds row) ≡ length row = simp length-map in
+    let next : rows (suc (9 - (q + 1))) (bounds rest) ≡ bounds row ∷ rows (9 - (q + 1)) (bounds more) = rows_next (9 - (q + 1)) (bounds rest) (bounds row) (bounds more) bounds_parts (omega arith) (omega arith) in
+    let bound : last (bounds row) ≡ b = last_at (bounds row) (omega arith) ∙ rw few (get_or-map (λ (x : Entry). x.bound) row (length row - 1) d (0, 0) (omega arith)) in
+    let was : numbered (1 + q) (map last (rows (9 - q) (bounds rest))) ≡ entry (1 + q) b ∷ numbered (1 + (q + 1)) (map last (rows (9 - (q + 1)) (bounds more))) = rw (fuel, next, bound, number) in
+    let added : out' ≡ out ++ (entry (1 + q) b ∷ []) = push ∙ fits 9 out (entry (1 + q) b ∷ []) (omega arith) in
+    (rw added (append_assoc out _ _ ∙ ap (λ xs. out ++ xs) (sym was) ∙ so), omega (arith, simp length-append at (ap length added)), omega arith)
 
-module _ (es : List Entry) where
-  pub root_turn : (q : ℕ) (out : List Entry) {more all : List Entry} {end : ℕ} → q < 9 → 9 * q < length es → end ≡ min (length es) (9 * q + 9)
-      → out ++ numbered (1 + q) (map last (rows (9 - q) (drop (9 * q) (bounds es)))) ≡ all → more ≡ out ++ (entry (1 + q) (get_or es (end - 1) (entry 0 (0, 0))).bound ∷ [])
-      → more ++ numbered (1 + (q + 1)) (map last (rows (9 - (q + 1)) (drop (9 * (q + 1)) (bounds es)))) ≡ all
-  root_turn q out {end = end} h k is rest push =
-      let long : length (bounds es) ≡ length es = simp length-map in
-      let here : 0 < length (drop (9 * q) (bounds es)) = simp (length-drop, length-map) (omega arith) in
-      let fuel : 9 - q ≡ suc (9 - (q + 1)) = omega arith in
-      let number : 1 + (q + 1) ≡ 1 + q + 1 = omega arith in
-      let next : drop 9 (drop (9 * q) (bounds es)) ≡ drop (9 * (q + 1)) (bounds es) = drop-drop 9 (9 * q) (bounds es) ∙ (let z : 9 * q + 9 ≡ 9 * (q + 1) = omega arith in rw z) in
-      let bound : last (take 9 (drop (9 * q) (bounds es))) ≡ (get_or es (end - 1) (entry 0 (0, 0))).bound = last_row (bounds es) q (omega arith) ∙ rw (long, ← is) (ListN.get_or-map (λ (e : Entry). e.bound) es (end - 1) (entry 0 (0, 0))) in
-      let was : numbered (1 + q) (map last (rows (9 - q) (drop (9 * q) (bounds es)))) ≡ entry (1 + q) (get_or es (end - 1) (entry 0 (0, 0))).bound ∷ numbered (1 + q + 1) (map last (rows (9 - (q + 1)) (drop (9 * (q + 1)) (bounds es)))) =
-      rw (fuel, rows_cons (9 - (q + 1)) (drop (9 * q) (bounds es)) here, bound, next) in
-      rw (push, number) (append_assoc out _ _ ∙ ap (λ xs. out ++ xs) (sym was) ∙ rest)
-
-  pub root_end : (q : ℕ) (out : List Entry) {all : List Entry} → length es ≤ 9 * q → out ++ numbered (1 + q) (map last (rows (9 - q) (drop (9 * q) (bounds es)))) ≡ all → out ≡ all
-  root_end q out h rest =
-      let none : drop (9 * q) (bounds es) ≡ [] = drop_all (9 * q) (bounds es) (simp length-map h) in
-      sym (append-nil out) ∙ ap (λ xs. out ++ numbered (1 + q) (map last xs)) (sym (no_more_rows (9 - q))) ∙ ap (λ xs. out ++ numbered (1 + q) (map last (rows (9 - q) xs))) (sym none) ∙ rest
+pub root_end : (q : ℕ) (rest out : List Entry) {all : List Entry} → length rest ≡ 0 → out ++ numbered (1 + q) (map last (rows (9 - q) (bounds rest))) ≡ all → out ≡ all
+root_end q rest out h so =
+    sym (append-nil out) ∙ ap (λ xs. out ++ numbered (1 + q) (map last xs)) (sym (no_more_rows (9 - q))) ∙ ap (λ xs. out ++ numbered (1 + q) (map last (rows (9 - q) (bounds xs)))) (sym (nil_from_length rest h)) ∙ so
 
 lasts_singles : (es : List Entry) → lasts (singles es) ≡ bounds es
 lasts_singles [] = refl
@@ -203,7 +220,13 @@ module _ (es : List Entry) (nodes : List Node) (h : length es ≤ 81) (long : le
   pub build_small : Small (groups (length es) nodes)
   build_small = rw build_groups (λ g below. omega (arith, singles_one es g below))
 
-pub fill_turn : (f : ℕ → List Entry) (nodes : List Node) (i : ℕ) (n : Node) → i < length nodes → items n ≡ f i → ((k : ℕ) → k < i → get_or (map items nodes) k [] ≡ f k) → (k : ℕ) → k < i + 1 → get_or (map items (set nodes i n)) k [] ≡ f k
-fill_turn f nodes i n h e each k below =
-    let long : i < length (map items nodes) = simp length-map h in
-    rw (map-set items nodes i n, e) (fill_by_more f (map items nodes) i [] long each k below)
+-- An array made by calls of one closure, which leave it as it was.
+pub made_at : {F B : Type 0} (g : Mut F (ℕ × Unit {0}) B) (P : ℕ → B → Type 0) (f : F) → ((i : ℕ) (y : B) (q : F) → Called g f (i, tt) y q → (q ≡ f) × P i y)
+    → (ys : List B) (n i k : ℕ) (d : B) → IsFromFnResultFrom g f ys i n → i ≤ k → k < i + n → P k (get_or ys k d)
+made_at g P f call ys zero i k d e h l = absurd (omega arith)
+made_at g P f call ys (suc n) i k d e h l =
+    let here = call i e.1 e.0 e.3 in
+    ⊎_elim
+    (λ (z : k ≡ i). subst (λ j. P j (get_or ys j d)) (sym z) (subst (P i) (sym (e.2.1 d)) here.1))
+    (λ (z : k ≢ i). made_at g P f call ys n (i + 1) k d (subst (λ p. IsFromFnResultFrom g p ys (i + 1) n) here.0 e.4) (omega arith) (omega arith))
+    (cases_eq k i)

@@ -1,5 +1,5 @@
 -- A change of one group that keeps its last bound changes one node.
-use Rattle.std.proofs.Common.{◌≡◌, ℕ, zero, suc, ◌+◌, ◌-◌, ◌<◌, cond, ltb, ◌≢◌, List, [], ◌∷◌, map, length, get_or, take, drop, set, sym, refl, ap, ◌∙◌, subst, ⊎_elim, arith, length-set, length-take, get_or-set_other, get_or-set_same}
+use Rattle.std.proofs.Common.{◌≡◌, ℕ, zero, suc, ◌+◌, ◌-◌, ◌<◌, ◌≤◌, cond, ltb, ◌≢◌, List, [], ◌∷◌, map, length, get_or, take, drop, set, sym, refl, ap, ◌∙◌, subst, ⊎_elim, arith, length-set, get_or-set_other, get_or-set_same}
 use lib.ListN
 use lib.ListN.{length-map}
 use lib.Seq.{map-set, set-get_or, take-set-lt, drop-set-add}
@@ -9,9 +9,9 @@ use Rattle.index.specs.declared.node.Node.{Node}
 use Rattle.index.specs.declared.table.Index.{Index}
 use Rattle.index.specs.Meaning.{grouped}
 use Rattle.index.proofs.LocateLaws.{length_grouped, low_node}
-use Rattle.std.proofs.lemmas.List.{get_or-map}
+use Rattle.std.proofs.lemmas.List.{get_or-map, take-map, drop-map}
 use Rattle.index.specs.Nodes.{items, bounds, parted, renamed}
-use Rattle.index.specs.Search.{last}
+use Rattle.index.specs.Search.{last, Full, Small}
 use Rattle.index.specs.Shape.{lasts, lowest, upper, table, groups, Sound}
 use Rattle.index.proofs.BuildLaws.{same_is, same_of, table_low, lowest_le}
 
@@ -62,7 +62,7 @@ module _ (gs : List (List Entry)) (g : ℕ) (new : List Entry) (h : g < length g
   table_new = ap (λ n. table (set gs g new) (lowest n + g)) (sym length_kept) ∙ table_low (set gs g new) g ∙ get_or-set_same gs g new [] h
 
 module _ (x : Index) (g : ℕ) (new : List Entry) (nodes : List Node) (h : g < length (grouped x)) (keeps : last (bounds new) ≡ last (bounds (get_or (grouped x) g []))) (is : map items nodes ≡ set (map items x.nodes) (lowest x.used + g) new) where
-  pub groups_changed : groups x.used nodes ≡ set (grouped x) g new
+  groups_changed : groups x.used nodes ≡ set (grouped x) g new
   unfolding grouped
   groups_changed =
       let n = length_grouped x in
@@ -70,7 +70,7 @@ module _ (x : Index) (g : ℕ) (new : List Entry) (nodes : List Node) (h : g < l
       ∙ ap (take x.used) (drop-set-add (lowest x.used) (map items x.nodes) g new)
       ∙ take-set-lt x.used (drop (lowest x.used) (map items x.nodes)) g new (omega (arith, n, h))
 
-  pub each_changed : (P : List Entry → Type 0) → P new → ((k : ℕ) → k < length (grouped x) → P (get_or (grouped x) k [])) → (k : ℕ) → k < length (groups x.used nodes) → P (get_or (groups x.used nodes) k [])
+  each_changed : (P : List Entry → Type 0) → P new → ((k : ℕ) → k < length (grouped x) → P (get_or (grouped x) k [])) → (k : ℕ) → k < length (groups x.used nodes) → P (get_or (groups x.used nodes) k [])
   unfolding grouped
   each_changed P here all k below =
       let within : k < length (grouped x) = omega (arith, below, ap length groups_changed, length_kept (grouped x) g new h keeps) in
@@ -79,7 +79,7 @@ module _ (x : Index) (g : ℕ) (new : List Entry) (nodes : List Node) (h : g < l
       (λ ne. let at : get_or (groups x.used nodes) k [] ≡ get_or (grouped x) k [] = ap (λ gs. get_or gs k []) groups_changed ∙ get_or-set_other (grouped x) g k new [] ne in subst P (sym at) (all k within))
       (cases_eq k g)
 
-  pub sound_changed : Sound x.used nodes
+  sound_changed : Sound x.used nodes
   unfolding grouped
   sound_changed i small =
       let gs = grouped x in
@@ -97,12 +97,6 @@ module _ (x : Index) (g : ℕ) (new : List Entry) (nodes : List Node) (h : g < l
 pub node_set : (nodes : List Node) (at : ℕ) (d n : Node) (f : List Entry → List Entry) → at < length nodes → items n ≡ f (items (get_or nodes at d)) → map items (set nodes at n) ≡ set (map items nodes) at (f (get_or (map items nodes) at []))
 node_set nodes at d n f h e = map-set items nodes at n ∙ ap (set (map items nodes) at) (e ∙ ap f (sym (get_or-map items nodes at d [] h)))
 
-pub count_is : (n : Node) → length (items n) ≡ n.count
-count_is n = rw length-take (omega (arith, n.ok.0, n.ok.1))
-
-pub count_at : (nodes : List Node) (at : ℕ) (d : Node) → at < length nodes → (get_or nodes at d).count ≡ length (get_or (map items nodes) at [])
-count_at nodes at d h = sym (ap length (get_or-map items nodes at d [] h) ∙ count_is (get_or nodes at d))
-
 -- The node of a group has the group.
 pub group_at : (x : Index) (g at : ℕ) → g < length (grouped x) → at ≡ lowest x.used + g → get_or (map items x.nodes) at [] ≡ get_or (grouped x) g []
 unfolding grouped
@@ -110,14 +104,40 @@ group_at x g at h is =
     let low = low_node x (lowest x.used) g refl h in
     ap (λ i. get_or (map items x.nodes) i []) is ∙ same_is _ _ (x.sound _ low.0) ∙ low.1
 
--- A change of the node of a group, told by its number.
-pub set_group : (x : Index) (g at : ℕ) (f : List Entry → List Entry) (nodes : List Node) → g < length (grouped x) → at ≡ lowest x.used + g
-    → map items nodes ≡ set (map items x.nodes) at (f (get_or (map items x.nodes) at [])) → map items nodes ≡ set (map items x.nodes) (lowest x.used + g) (f (get_or (grouped x) g []))
-set_group x g at f nodes h is e =
-    e ∙ ap (λ v. set (map items x.nodes) at (f v)) (group_at x g at h is) ∙ ap (λ i. set (map items x.nodes) i (f (get_or (grouped x) g []))) is
+-- What a change of the node of one group leaves of an index.
+pub record Changed (x : Index) (g : ℕ) (new : List Entry) (nodes : List Node) : Type 0 where
+  pub all : groups x.used nodes ≡ set (grouped x) g new
+  pub long : length nodes ≡ 91
+  pub full : 0 < length new → Full (groups x.used nodes)
+  pub small : length new ≤ 5 → Small (groups x.used nodes)
+  pub sound : Sound x.used nodes
 
-pub length_changed : (x : Index) (i : ℕ) (new : List Entry) (nodes : List Node) → map items nodes ≡ set (map items x.nodes) i new → length nodes ≡ 91
-length_changed x i new nodes e = sym (length-map nodes items) ∙ ap length e ∙ length-set (map items x.nodes) i new ∙ length-map x.nodes items ∙ x.size.2
+pub changed : (x : Index) (g at : ℕ) (f : List Entry → List Entry) (nodes : List Node) → g < length (grouped x) → at ≡ lowest x.used + g → map items nodes ≡ set (map items x.nodes) at (f (get_or (map items x.nodes) at []))
+    → last (bounds (f (get_or (grouped x) g []))) ≡ last (bounds (get_or (grouped x) g [])) → Changed x g (f (get_or (grouped x) g [])) nodes
+unfolding grouped
+changed x g at f nodes h here e keeps =
+    let new = f (get_or (grouped x) g []) in
+    let is : map items nodes ≡ set (map items x.nodes) (lowest x.used + g) new =
+    e ∙ ap (λ v. set (map items x.nodes) at (f v)) (group_at x g at h here) ∙ ap (λ i. set (map items x.nodes) i new) here in
+    record {
+      all = groups_changed x g new nodes h keeps is;
+      long = sym (length-map nodes items) ∙ ap length is ∙ length-set (map items x.nodes) (lowest x.used + g) new ∙ length-map x.nodes items ∙ x.size.2;
+      full = λ some. each_changed x g new nodes h keeps is (λ es. 0 < length es) some x.full;
+      small = λ few. each_changed x g new nodes h keeps is (λ es. length es ≤ 5) few x.small;
+      sound = sound_changed x g new nodes h keeps is;
+    }
+
+-- The nodes of the groups.
+pub groups_part : (nodes : List Node) (used low : ℕ) → low ≡ lowest used → map items (take (low + used - low) (drop low nodes)) ≡ groups used nodes
+groups_part nodes used low is =
+    let n : low + used - low ≡ used = omega arith in
+    rw (n, is) (sym (ap (take used) (drop-map items (lowest used) nodes) ∙ take-map items used (drop (lowest used) nodes)))
+
+pub group_count : (nodes : List Node) (gs : List (List Entry)) → map items nodes ≡ gs → length nodes ≡ length gs
+group_count nodes gs e = sym (length-map nodes items) ∙ ap length e
+
+pub node_group : (nodes : List Node) (gs : List (List Entry)) (g : ℕ) (d n : Node) → map items nodes ≡ gs → g < length nodes → n ≡ get_or nodes g d → items n ≡ get_or gs g []
+node_group nodes gs g d n e h is = ap items is ∙ sym (get_or-map items nodes g d [] h) ∙ ap (λ v. get_or v g []) e
 
 pub length_renamed : (es : List Entry) (s leaf : ℕ) → length (renamed es s leaf) ≡ length es
 length_renamed [] s leaf = refl

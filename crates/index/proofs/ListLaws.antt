@@ -1,18 +1,18 @@
 -- One turn of listing all groups, and what changes of one group do to the list of all leaves.
-use Rattle.std.proofs.Common.{◌≡◌, ℕ, zero, suc, ◌+◌, ◌-◌, ◌<◌, ◌≤◌, Bool, true, false, ◌&&◌, ltb, List, [], ◌∷◌, ◌++◌, length, get_or, take, drop, set, sym, refl, ap, ◌∙◌, append_assoc, append-nil, arith, length-append, length-set, length-take}
-use Rattle.std.proofs.lemmas.List.{drop_more, drop_all, get_or_append_left, get_or-append-add, get_or-take}
+use Rattle.std.proofs.Common.{◌≡◌, ℕ, zero, suc, ◌+◌, ◌-◌, ◌<◌, ◌≤◌, Bool, true, false, ◌&&◌, ltb, List, [], ◌∷◌, ◌++◌, length, Some, None, Option, is_some, Bor, slice_get, get_or, drop, set, sym, refl, ap, ◌∙◌, ⊎_elim, append_assoc, append-nil, arith, length-append, length-set}
+use Rattle.std.proofs.lemmas.List.{drop_more, drop_all, get_or_append_left, get_or-append-add}
 use Rattle.index.specs.declared.node.Entry.{Entry}
-use Rattle.index.specs.declared.node.Node.{Node}
-use Rattle.index.specs.declared.chain.Chain.{Chain}
-use Rattle.index.specs.Nodes.{items, chained, parted, renamed, without, joined}
-use Rattle.index.specs.Search.{concat, offset}
+use Rattle.index.specs.Nodes.{entry, parted, renamed, without, joined}
+use Rattle.index.specs.Search.{concat, offset, Full}
 use Rattle.index.specs.declared.table.Place.{Place}
-use Rattle.index.specs.Places.{position, group_of, within}
-use Rattle.index.specs.Meaning.{split, splits, with_group}
-use Rattle.index.proofs.PlaceLaws.{Within, within_parts}
+use Rattle.index.specs.Places.{position, group_of, place_after, place_before, within}
+use Rattle.index.specs.Meaning.{leaf_at, split, splits, with_group}
+use Rattle.index.proofs.PlaceLaws.{Within, within_parts, within_of, in_its_group, told_after, none_after, told_before, none_before}
 use Rattle.index.proofs.BuildLaws.{concat_singles}
-use Rattle.index.proofs.ChangeLaws.{length_parted, length_renamed, count_is}
-use Rattle.std.proofs.lemmas.Bool.{cond_both, and_parts, ltb-true, le-ltb, lt-ltb}
+use Rattle.index.proofs.ChangeLaws.{length_parted, length_renamed}
+use Rattle.std.proofs.lemmas.Bool.{cond-true, cond-false, cond_both, and_parts, cases_lt, ltb-false, ltb-true, le-ltb, lt-ltb}
+use Rattle.std.proofs.lemmas.Option.{slice_get-get_or, slice_get_past, slice_get_read}
+use Rattle.std.specs.Option.{IfSome, option_copied}
 
 and_false : (a b : Bool) → b ≡ false → false ≡ (a && b)
 and_false true b e = sym e
@@ -21,12 +21,6 @@ and_false false b e = refl
 and_true : (a b : Bool) → b ≡ true → a ≡ (a && b)
 and_true true b e = sym e
 and_true false b e = refl
-
-pub chain_count : (c : Chain) → length (chained c) ≡ c.count
-chain_count c = rw length-take (omega (arith, c.ok.0, c.ok.1))
-
-pub chain_slice : (c : Chain) → take (c.count - 0) (drop 0 c.entries) ≡ chained c
-chain_slice c = let z : c.count - 0 ≡ c.count = omega arith in rw z
 
 module _ (gs : List (List Entry)) (g : ℕ) (out : List Entry) {all : List Entry} (rest : out ++ concat (drop g gs) ≡ all) where
   here : g < length gs → out ++ (get_or gs g [] ++ concat (drop (g + 1) gs)) ≡ all
@@ -132,12 +126,44 @@ pub offset_none : {X : Type 0} (gs : List (List X)) → offset gs 0 ≡ 0
 offset_none [] = refl
 offset_none (x ∷ gs) = refl
 
-pub count_of : (n : Node) {es : List Entry} → items n ≡ es → n.count ≡ length es
-count_of n e = sym (count_is n) ∙ ap length e
+pub item_is : {X : Type 0} (xs : List X) (i : ℕ) (r : Option (Bor X)) → is_some r ≡ ltb i (length xs) → IfSome r (λ x. x.now ≡ get_or xs i x.now) → option_copied r ≡ slice_get xs i
+item_is xs i None e s = sym (slice_get_past xs i (ltb-false _ _ (sym e)))
+item_is xs i (Some x) e s = sym (slice_get_read xs (length xs) i x.now refl (ltb-true _ _ (sym e)) s)
 
-pub entry_is : (gs : List (List Entry)) (p : Place) (n : Node) (d : Entry) → Within gs p → items n ≡ group_of gs p → get_or n.entries p.slot d ≡ get_or (concat gs) (position gs p) d
-entry_is gs p n d w e =
-    sym (get_or-take n.count n.entries p.slot d (omega (arith, count_of n e, w.1))) ∙ ap (λ es. get_or es p.slot d) e ∙ sym (offset_at gs p.group p.slot d w.0 w.1)
+pub leaf_is : (gs : List (List Entry)) (p : Place) {es : List Entry} → p.group < length gs → es ≡ group_of gs p → slice_get es p.slot ≡ leaf_at gs p
+leaf_is gs p {es} h e =
+    ⊎_elim
+    (λ k. let d = entry 0 (0, 0) in
+    slice_get-get_or es p.slot d k ∙ ap Some (ap (λ xs. get_or xs p.slot d) e ∙ sym (offset_at gs p.group p.slot d h (rw e at k))) ∙ sym (cond-true _ _ _ (within_of gs p (h, rw e at k))))
+    (λ k. slice_get_past es p.slot k ∙ sym (cond-false _ _ _ (sym (in_its_group gs p h (ap length e)) ∙ le-ltb p.slot (length es) k)))
+    (cases_lt p.slot (length es))
+
+-- The places beside one that is there, where no group is empty.
+module _ (gs : List (List Entry)) (p : Place) {n : ℕ} (h : p.group < length gs) (count : n ≡ length (group_of gs p)) (k : p.slot < n) where
+  there : Within gs p
+  there = (h, omega arith)
+
+  pub next_slot : p.slot + 1 < n → Some (record { group = p.group; slot = p.slot + 1 }) ≡ place_after gs p
+  next_slot more = told_after gs p there _ (h, omega arith) (omega arith)
+
+  pub next_group : Full gs → n ≤ p.slot + 1 → p.group + 1 < length gs → Some (record { group = p.group + 1; slot = 0 }) ≡ place_after gs p
+  next_group full less more = told_after gs p there _ (more, full (p.group + 1) more) (omega (arith, offset_more gs p.group h))
+
+  pub no_next : n ≤ p.slot + 1 → length gs ≤ p.group + 1 → None ≡ place_after gs p
+  no_next less none = none_after gs p there (omega (arith, offset_more gs p.group h, offset_all gs (p.group + 1) none))
+
+module _ (gs : List (List Entry)) (p : Place) (t : within gs p ≡ true) where
+  pub last_slot : 0 < p.slot → Some (record { group = p.group; slot = p.slot - 1 }) ≡ place_before gs p
+  last_slot some = let w = within_parts gs p t in told_before gs p w _ (w.0, omega (arith, w.1)) (omega arith)
+
+  pub last_group : (g : ℕ) {n : ℕ} → g + 1 ≡ p.group → p.slot ≡ 0 → n ≡ length (get_or gs g []) → 0 < n → Some (record { group = g; slot = n - 1 }) ≡ place_before gs p
+  last_group g e z count some =
+      let w = within_parts gs p t in
+      let h : g < length gs = omega (arith, w.0) in
+      told_before gs p w _ (h, omega arith) (omega (arith, offset_more gs g h, ap (offset gs) e))
+
+  pub no_last : p.group ≡ 0 → p.slot ≡ 0 → None ≡ place_before gs p
+  no_last e z = none_before gs p (within_parts gs p t) (omega (arith, ap (offset gs) e ∙ offset_none gs))
 
 without_front : (xs ys : List Entry) (s : ℕ) → s < length xs → without xs s ++ ys ≡ without (xs ++ ys) s
 without_front [] ys s h = absurd (omega arith)

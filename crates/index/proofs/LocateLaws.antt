@@ -13,7 +13,7 @@ use Rattle.index.specs.Nodes.{items, bounds}
 use Rattle.index.specs.Search.{search, First, last, front, concat, offset, Ascending, Full}
 use Rattle.index.specs.Shape.{numbered, rows, lasts, lowest, table}
 use Rattle.index.specs.Meaning.{grouped}
-use Rattle.index.proofs.BuildLaws.{lowest_le, same_is, rows_at, table_low}
+use Rattle.index.proofs.BuildLaws.{length_numbered, lowest_le, same_is, rows_at, table_low}
 use Rattle.index.proofs.SearchLaws.{finds_first, finds_only, Filled, filled, through, lasts_ascend, concat_rows, rows_full, offset_rows}
 
 pub length_grouped : (x : Index) → length (grouped x) ≡ x.used
@@ -32,10 +32,6 @@ node_is x i d h =
 pub bounds_numbered : (n : ℕ) (bs : List (ℕ × ℕ)) → bounds (numbered n bs) ≡ bs
 bounds_numbered n [] = refl
 bounds_numbered n (b ∷ bs) = ap (λ xs. b ∷ xs) (bounds_numbered (n + 1) bs)
-
-length_numbered : (n : ℕ) (bs : List (ℕ × ℕ)) → length (numbered n bs) ≡ length bs
-length_numbered n [] = refl
-length_numbered n (b ∷ bs) = ap suc (length_numbered (n + 1) bs)
 
 bounds_concat : (gs : List (List Entry)) → bounds (concat gs) ≡ concat (map bounds gs)
 bounds_concat [] = refl
@@ -151,10 +147,6 @@ module _ (gs : List (List Entry)) where
           let inner : search o key (get_or rs q []) ≡ j = sym (ej ∙ ap (search o key) (ap bounds (many_row q q_small) ∙ bounds_numbered _ (get_or rs q []))) in
           let before : offset rs q ≡ 9 * q = offset_rows 9 (lasts gs) q q_within in
           sym (ap (search o key) (sym whole) ∙ go ∙ rw (at, before, inner))
-
--- A node's part in use.
-pub slice_items : (n : Node) → take (n.count - 0) (drop 0 n.entries) ≡ items n
-slice_items n = let z : n.count - 0 ≡ n.count = omega arith in rw z
 
 -- The node of a group.
 pub low_node : (x : Index) (low group : ℕ) → low ≡ lowest x.used → group < length (grouped x) → (low + group < 91) × (table (grouped x) (low + group) ≡ get_or (grouped x) group [])

@@ -4,7 +4,7 @@ use Rattle.std.proofs.lemmas.Bool.{cond-true, cond-false, le-ltb, lt-ltb, ltb-tr
 use Rattle.index.specs.declared.node.Entry.{Entry}
 use Rattle.index.specs.declared.table.Place.{Place}
 use Rattle.index.specs.Search.{concat, offset}
-use Rattle.index.specs.Places.{within, group_of, position, moved, place_at, place_after, place_under, Placed, Numbered, EveryNumber}
+use Rattle.index.specs.Places.{within, group_of, position, moved, place_at, place_after, place_before, Placed, Numbered, EveryNumber}
 
 abbrev pub Within : List (List Entry) → Place → Type 0
 Within gs p = (p.group < length gs) × (p.slot < length (group_of gs p))
@@ -38,7 +38,7 @@ found_at (x ∷ gs) (suc g) s h k =
 pub placed : Placed
 placed gs p t = let w = within_parts gs p t in found_at gs p.group p.slot w.0 w.1
 
-pub told_at : (gs : List (List Entry)) (p : Place) {n : ℕ} → Within gs p → position gs p ≡ n → Some p ≡ place_at gs n
+told_at : (gs : List (List Entry)) (p : Place) {n : ℕ} → Within gs p → position gs p ≡ n → Some p ≡ place_at gs n
 told_at gs p w e = sym (found_at gs p.group p.slot w.0 w.1) ∙ ap (place_at gs) e
 
 none_some : {X : Type 0} {x : X} {Y : Type 0} → None ≡ Some x → Y
@@ -86,15 +86,22 @@ none_of : (o : Option Place) → is_some o ≡ false → None ≡ o
 none_of None e = refl
 none_of (Some p) e = absurd (true≢false e)
 
-pub none_at : (gs : List (List Entry)) (n : ℕ) → length (concat gs) ≤ n → None ≡ place_at gs n
+none_at : (gs : List (List Entry)) (n : ℕ) → length (concat gs) ≤ n → None ≡ place_at gs n
 none_at gs n h = none_of (place_at gs n) (every_number gs n ∙ le-ltb n (length (concat gs)) h)
 
--- A place under a number that is not the first, and under the first.
-pub told_under : (gs : List (List Entry)) (p : Place) {n : ℕ} → Within gs p → position gs p + 1 ≡ n → Some p ≡ place_under gs n
-told_under gs p {n} w e = told_at gs p w (omega arith) ∙ sym (cond-true _ _ _ (lt-ltb 0 n (omega arith)))
+-- The places beside one that is there.
+module _ (gs : List (List Entry)) (p : Place) (w : Within gs p) where
+  pub told_after : (q : Place) → Within gs q → position gs q ≡ position gs p + 1 → Some q ≡ place_after gs p
+  told_after q v e = told_at gs q v e ∙ sym (cond-true _ _ _ (within_of gs p w))
 
-pub none_under : (gs : List (List Entry)) {n : ℕ} → n ≡ 0 → None ≡ place_under gs n
-none_under gs {n} e = sym (cond-false _ _ _ (le-ltb 0 n (omega arith)))
+  pub none_after : length (concat gs) ≤ position gs p + 1 → None ≡ place_after gs p
+  none_after h = none_at gs (position gs p + 1) h ∙ sym (cond-true _ _ _ (within_of gs p w))
+
+  pub told_before : (q : Place) → Within gs q → position gs q + 1 ≡ position gs p → Some q ≡ place_before gs p
+  told_before q v e = told_at gs q v (omega arith) ∙ sym (cond-true _ _ _ (lt-ltb 0 (position gs p) (omega arith))) ∙ sym (cond-true _ _ _ (within_of gs p w))
+
+  pub none_before : position gs p ≡ 0 → None ≡ place_before gs p
+  none_before e = sym (cond-false _ _ _ (le-ltb 0 (position gs p) (omega arith))) ∙ sym (cond-true _ _ _ (within_of gs p w))
 
 -- Two places, the second after the first.
 pub after_parts : (gs : List (List Entry)) (p q : Place) → place_after gs p ≡ Some q → Within gs p × Within gs q × (position gs q ≡ position gs p + 1)

@@ -1,5 +1,6 @@
 -- A node as a caller is told it.
 use Rattle.std.specs.Prelude.{ℕ, ◌-◌, Bool, cond, List, length, take, ◌==◌, nat_le}
+use Rattle.fixed_vec.specs.Items.{items}
 use Rattle.index.specs.declared.node.Entry.{Entry}
 use Rattle.index.specs.declared.record.Holds.{Holds}
 use Rattle.index.specs.declared.record.Holds.TheVariants.{Nothing, Leaves, Children}
@@ -20,7 +21,7 @@ pub record Telling : Type 0 where
 
 abbrev pub told : NodeRecord → Telling
 told s =
-    record { kept = s.holds; many = s.count; names = take s.count s.numbers; between = take (s.count - 1) s.bounds }
+    record { kept = s.holds; many = length (items s.numbers); names = items s.numbers; between = items s.bounds }
 
 abbrev pub telling : Bool → List Entry → Telling
 telling low es =

@@ -1,5 +1,5 @@
 // A node of the index: its leaves or children in their order, each with the bound of its last key.
-ghost use Rattle.std.specs.Prelude.{◌≡◌, ◌≤◌, length};
+use fixed_vec::FixedVec;
 
 pub(crate) mod fill;
 pub(crate) mod search;
@@ -13,7 +13,5 @@ pub struct Entry {
 
 #[derive(Clone, Copy)]
 pub(crate) struct Node {
-    pub(crate) count: usize,
-    pub(crate) entries: [Entry; 9],
-    ghost ok: { (count ≤ 9) × (length entries ≡ 9) },
+    pub(crate) entries: FixedVec<Entry, 9>,
 }

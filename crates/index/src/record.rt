@@ -1,4 +1,9 @@
 // A node as a caller is told it.
+ghost use Rattle.std.specs.Prelude.{◌≡◌, []};
+ghost use Rattle.fixed_vec.specs.Items.{items};
+
+use fixed_vec::FixedVec;
+
 #[derive(Clone, Copy, PartialEq, Eq, Debug)]
 pub enum Holds {
     Nothing,
@@ -6,11 +11,25 @@ pub enum Holds {
     Children,
 }
 
-// The numbers of `count` leaves or children, and the bounds between neighbours; what stands past them means nothing.
+// The numbers of a node's leaves or children, and the bounds between neighbours.
 #[derive(Clone, Copy)]
 pub struct NodeRecord {
     pub holds: Holds,
-    pub count: usize,
-    pub numbers: [usize; 9],
-    pub bounds: [(u64, u64); 8],
+    pub numbers: FixedVec<usize, 9>,
+    pub bounds: FixedVec<(u64, u64), 8>,
+}
+
+impl NodeRecord {
+    // The record of an empty node.
+    pub fn new() -> Self
+        ensures holds { result.holds ≡ Holds.Nothing }
+        ensures numbers { items result.numbers ≡ [] }
+        ensures bounds { items result.bounds ≡ [] }
+    {
+        NodeRecord {
+            holds: Holds::Nothing,
+            numbers: FixedVec::new(0),
+            bounds: FixedVec::new((0, 0)),
+        }
+    }
 }

@@ -10,7 +10,6 @@ pub mod calls;
 pub(crate) mod change;
 pub(crate) mod list;
 pub(crate) mod locate;
-pub(crate) mod neighbours;
 pub(crate) mod show;
 
 // The first `used` nodes of the lowest level hold the leaves, which are at most 64.

@@ -1,81 +1,57 @@
 // Filling a node.
-ghost use Rattle.std.specs.Prelude.{◌≡◌, ◌+◌, ◌<◌, ◌≤◌, [], ◌∷◌, ◌++◌, length, take};
+ghost use Rattle.std.specs.Prelude.{◌≡◌, ◌<◌, [], length};
+ghost use Rattle.fixed_vec.specs.Items.{items as items_of};
 ghost use Rattle.index.specs.Nodes.{items, parted, renamed, without};
 
 use super::{Entry, Node};
+use fixed_vec::FixedVec;
 
-pub(crate) fn empty() -> Node
-    ensures list { items result ≡ [] }
-    ensures count { result.count ≡ 0 }
+// An empty list of entries.
+pub(crate) fn empty<const N: usize>() -> FixedVec<Entry, N>
+    ensures { items_of result ≡ [] }
 {
-    Node {
-        count: 0,
-        entries: [Entry {
-            to: 0,
-            bound: (0, 0),
-        }; 9],
-    }
-}
-
-// Writes more entries after the first `count` of a run.
-pub(crate) fn put(run: &mut [Entry], count: usize, more: &[Entry])
-    requires { count + length more.now ≤ length run.old }
-    ensures { take (count + length more.now) run.new ≡ take count run.old ++ more.now }
-{
-    run[count..count + more.len()].copy_from_slice(more);
+    FixedVec::new(Entry {
+        to: 0,
+        bound: (0, 0),
+    })
 }
 
 impl Node {
-    pub(crate) fn push(&mut self, e: Entry)
-        requires { self.old.count < 9 }
-        ensures list { items self.new ≡ items self.old ++ (e ∷ []) }
-        ensures count { self.new.count ≡ self.old.count + 1 }
-    {
-        self.entries[self.count] = e;
-        self.count += 1;
-    }
-
-    pub(crate) fn append(&mut self, more: &[Entry])
-        requires { self.old.count + length more.now ≤ 9 }
-        ensures list { items self.new ≡ items self.old ++ more.now }
-        ensures count { self.new.count ≡ self.old.count + length more.now }
-    {
-        put(&mut self.entries, self.count, more);
-        self.count += more.len();
-    }
-
     // Puts two leaves in the place of one: the left with a bound, the right with the bound that was there.
-    pub(crate) fn insert(&mut self, slot: usize, left: usize, bound: (u64, u64), right: usize)
-        requires { (slot < self.old.count) × (self.old.count < 9) }
-        ensures list { items self.new ≡ parted (items self.old) slot left bound right }
-        ensures count { self.new.count ≡ self.old.count + 1 }
+    pub(crate) fn insert(&mut self, slot: usize, left: Entry, right: usize)
+        requires { (slot < length (items self.old)) × (length (items self.old) < 9) }
+        ensures { items self.new ≡ parted (items self.old) slot left.to left.bound right }
     {
-        let old = self.entries[slot];
-        let mut out = empty();
-        out.append(&self.entries[0..slot]);
-        out.push(Entry { to: left, bound });
-        out.push(Entry {
-            to: right,
-            bound: old.bound,
-        });
-        out.append(&self.entries[slot + 1..self.count]);
-        *self = out;
+        let old = self.entries.as_slice();
+        let mut entries = empty();
+        entries.extend_from_slice(&old[..slot]).unwrap();
+        entries.push(left).unwrap();
+        entries
+            .push(Entry {
+                to: right,
+                bound: old[slot].bound,
+            })
+            .unwrap();
+        entries.extend_from_slice(&old[slot + 1..]).unwrap();
+        self.entries = entries;
     }
 
     pub(crate) fn remove(&mut self, slot: usize)
-        requires { slot < self.old.count }
+        requires { slot < length (items self.old) }
         ensures { items self.new ≡ without (items self.old) slot }
     {
-        let mut out = empty();
-        out.append(&self.entries[0..slot]);
-        out.append(&self.entries[slot + 1..self.count]);
-        *self = out;
+        let old = self.entries.as_slice();
+        let mut entries = empty();
+        entries.extend_from_slice(&old[..slot]).unwrap();
+        entries.extend_from_slice(&old[slot + 1..]).unwrap();
+        self.entries = entries;
     }
 
     pub(crate) fn rename(&mut self, slot: usize, leaf: usize)
-        requires { slot < self.old.count }
-        ensures list { items self.new ≡ renamed (items self.old) slot leaf }
+        requires { slot < length (items self.old) }
+        ensures { items self.new ≡ renamed (items self.old) slot leaf }
     {
-        self.entries[slot].to = leaf;
+        let bound = self.entries.as_slice()[slot].bound;
+        self.entries.replace(slot, Entry { to: leaf, bound });
     }
 }

@@ -8,20 +8,22 @@ ghost use Rattle.index.specs.Meaning.{grouped};
 use super::Index;
 use crate::node::fill::empty;
 use crate::node::{Entry, Node};
+use std::array;
 
 // Children numbered from `first` on, with the bounds of the entries.
 fn children(first: usize, entries: &[Entry]) -> Node
     requires { (length entries.now ≤ 9) × (first < 91) }
     ensures { items result ≡ numbered first (bounds entries.now) }
 {
-    let mut out = empty();
-    for i in 0..entries.len() {
-        out.push(Entry {
+    let mut children = empty();
+    for (i, e) in entries.iter().enumerate() {
+        let child = Entry {
             to: first + i,
-            bound: entries[i].bound,
-        });
+            bound: e.bound,
+        };
+        children.push(child).unwrap();
     }
-    out
+    Node { entries: children }
 }
 
 // The root over rows of nine entries.
@@ -29,25 +31,25 @@ fn root(entries: &[Entry]) -> Node
     requires { length entries.now ≤ 81 }
     ensures { items result ≡ numbered 1 (map last (rows 9 (bounds entries.now))) }
 {
-    let mut out = empty();
-    for q in 0..(entries.len() + 8) / 9 {
-        let end = entries.len().min(9 * q + 9);
-        out.push(Entry {
+    let mut children = empty();
+    for (q, row) in entries.chunks(9).enumerate() {
+        let child = Entry {
             to: 1 + q,
-            bound: entries[end - 1].bound,
-        });
+            bound: row[row.len() - 1].bound,
+        };
+        children.push(child).unwrap();
     }
-    out
+    Node { entries: children }
 }
 
 fn single(entries: &[Entry], i: usize) -> Node
     ensures { items result ≡ slice_index_or (singles entries.now) i [] }
 {
-    let mut out = empty();
-    if i < entries.len() {
-        out.push(entries[i]);
+    let mut leaves = empty();
+    if let Some(e) = entries.get(i) {
+        leaves.push(*e).unwrap();
     }
-    out
+    Node { entries: leaves }
 }
 
 pub(crate) fn lowest(used: usize) -> usize
@@ -87,13 +89,9 @@ pub(crate) fn built(entries: &[Entry]) -> Index
     requires { (1 ≤ length entries.now) × (length entries.now ≤ 64) }
     ensures { grouped result ≡ singles entries.now }
 {
-    let mut nodes = [empty(); 91];
-    for i in 0..91 {
-        nodes[i] = made(entries, i);
-    }
     Index {
         leaves: entries.len(),
         used: entries.len(),
-        nodes,
+        nodes: array::from_fn(|i| made(entries, i)),
     }
 }

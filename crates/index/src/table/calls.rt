@@ -10,6 +10,7 @@ ghost use Rattle.index.specs.Meaning.{grouped, listed, grouped_in, built as buil
 ghost use Rattle.index.specs.Showing.{told, node_told};
 
 use super::build::built;
+use super::change::rename_in;
 use super::{Index, Place};
 use crate::node::Entry;
 use crate::record::NodeRecord;
@@ -41,20 +42,32 @@ impl Index {
     pub fn entry(&self, place: Place) -> Option<Entry>
         ensures { result ≡ leaf_at (grouped self.now) place }
     {
-        if !self.has(place) {
-            return None;
-        }
-        Some(self.entry_of(place))
+        let node = self.groups().get(place.group)?;
+        node.entries.as_slice().get(place.slot).copied()
     }
 
     // The place after, unless it is the last.
     pub fn after(&self, place: Place) -> Option<Place>
         ensures { result ≡ place_after (grouped self.now) place }
     {
-        if !self.has(place) {
+        let groups = self.groups();
+        let len = groups.get(place.group)?.entries.len();
+        if place.slot >= len {
             return None;
         }
-        self.next_place(place)
+        if place.slot + 1 < len {
+            return Some(Place {
+                group: place.group,
+                slot: place.slot + 1,
+            });
+        }
+        if place.group + 1 < groups.len() {
+            return Some(Place {
+                group: place.group + 1,
+                slot: 0,
+            });
+        }
+        None
     }
 
     // The place before, unless it is the first.
@@ -64,7 +77,17 @@ impl Index {
         if !self.has(place) {
             return None;
         }
-        self.previous_place(place)
+        if place.slot > 0 {
+            return Some(Place {
+                group: place.group,
+                slot: place.slot - 1,
+            });
+        }
+        let group = place.group.checked_sub(1)?;
+        Some(Place {
+            group,
+            slot: self.groups()[group].entries.len() - 1,
+        })
     }
 
     // Another leaf in the place of one, with its bound.
@@ -77,21 +100,22 @@ impl Index {
         if !self.has(place) {
             return false;
         }
-        self.replace_leaf(place, leaf);
+        let at = self.node_of(place.group);
+        rename_in(&mut self.nodes, at, place.slot, leaf);
         true
     }
 
     // Two leaves in the place of one: the left with a bound, the right with the bound that was there.
-    pub fn split(&mut self, place: Place, left: usize, bound: (u64, u64), right: usize) -> bool
+    pub fn split(&mut self, place: Place, left: Entry, right: usize) -> bool
         ensures answer { result ≡ splits (grouped self.old) place }
-        ensures groups { grouped self.new ≡ (if splits (grouped self.old) place then split_groups (grouped self.old) place left bound right else grouped self.old) }
-        ensures list { listed self.new ≡ (if splits (grouped self.old) place then parted (listed self.old) (position (grouped self.old) place) left bound right else listed self.old) }
-        ensures ascends { AscendsWith (listed self.old) (position (grouped self.old) place) bound (listed self.new) }
+        ensures groups { grouped self.new ≡ (if splits (grouped self.old) place then split_groups (grouped self.old) place left.to left.bound right else grouped self.old) }
+        ensures list { listed self.new ≡ (if splits (grouped self.old) place then parted (listed self.old) (position (grouped self.old) place) left.to left.bound right else listed self.old) }
+        ensures ascends { AscendsWith (listed self.old) (position (grouped self.old) place) left.bound (listed self.new) }
     {
         if !self.can_split(place) {
             return false;
         }
-        self.split_leaf(place, left, bound, right);
+        self.split_leaf(place, left, right);
         true
     }
 

@@ -1,14 +1,14 @@
 // Changes of the index in place: only the node of the leaf changes.
 ghost use Rattle.std.specs.Prelude.{◌≡◌, ◌<◌, true, [], map, length, nat_lt, slice_index_or, slice_set};
-ghost use Rattle.index.specs.Nodes.{items, bounds, parted, renamed};
-ghost use Rattle.index.specs.Places.{within, group_of, position};
-ghost use Rattle.index.specs.Meaning.{grouped, listed, with_group, replaced, splits};
+ghost use Rattle.index.specs.Nodes.{items, parted, renamed};
+ghost use Rattle.index.specs.Places.{within, group_of};
+ghost use Rattle.index.specs.Meaning.{grouped, listed, with_group, splits};
 
 use super::{Index, Place};
-use crate::node::Node;
+use crate::node::{Entry, Node};
 
 // Lends one node to name another leaf.
-fn rename_in(nodes: &mut [Node], at: usize, slot: usize, leaf: usize)
+pub(super) fn rename_in(nodes: &mut [Node], at: usize, slot: usize, leaf: usize)
     requires { (at < length nodes.old) × (slot < length (slice_index_or (map items nodes.old) at [])) }
     ensures { map items nodes.new ≡ slice_set (map items nodes.old) at (renamed (slice_index_or (map items nodes.old) at []) slot leaf) }
 {
@@ -17,40 +17,21 @@ fn rename_in(nodes: &mut [Node], at: usize, slot: usize, leaf: usize)
 }
 
 // Lends one node to insert a leaf and a bound.
-fn insert_in(
-    nodes: &mut [Node],
-    at: usize,
-    slot: usize,
-    left: usize,
-    bound: (u64, u64),
-    right: usize,
-)
+fn insert_in(nodes: &mut [Node], at: usize, slot: usize, left: Entry, right: usize)
     requires { (at < length nodes.old) × ((slot < length (slice_index_or (map items nodes.old) at [])) × (length (slice_index_or (map items nodes.old) at []) < 9)) }
-    ensures { map items nodes.new ≡ slice_set (map items nodes.old) at (parted (slice_index_or (map items nodes.old) at []) slot left bound right) }
+    ensures { map items nodes.new ≡ slice_set (map items nodes.old) at (parted (slice_index_or (map items nodes.old) at []) slot left.to left.bound right) }
 {
     let node = &mut nodes[at];
-    node.insert(slot, left, bound, right);
+    node.insert(slot, left, right);
 }
 
 impl Index {
-    // Another leaf in the place of one, with its bound.
-    pub(crate) fn replace_leaf(&mut self, place: Place, leaf: usize)
-        requires { within (grouped self.old) place ≡ true }
-        ensures list { listed self.new ≡ renamed (listed self.old) (position (grouped self.old) place) leaf }
-        ensures groups { grouped self.new ≡ replaced (grouped self.old) place leaf }
-        ensures bounds { bounds (listed self.new) ≡ bounds (listed self.old) }
-    {
-        let at = self.node_of(place.group);
-        rename_in(&mut self.nodes, at, place.slot, leaf);
-    }
-
     // Whether the node of the place has room for one leaf more.
     pub(crate) fn has_room(&self, place: Place) -> bool
         requires { within (grouped self.now) place ≡ true }
         ensures { result ≡ nat_lt (length (group_of (grouped self.now) place)) 5 }
     {
-        let node = self.group_node(place.group);
-        node.count < 5
+        self.groups()[place.group].entries.len() < 5
     }
 
     // Whether a leaf can be split: it is there, and there are fewer than 64.
@@ -64,12 +45,12 @@ impl Index {
     }
 
     // Two leaves in the place of one.
-    pub(crate) fn insert(&mut self, place: Place, left: usize, bound: (u64, u64), right: usize)
+    pub(crate) fn insert(&mut self, place: Place, left: Entry, right: usize)
         requires { (within (grouped self.old) place ≡ true) × ((length (group_of (grouped self.old) place) < 5) × (length (listed self.old) < 64)) }
-        ensures { grouped self.new ≡ with_group (grouped self.old) place (parted (group_of (grouped self.old) place) place.slot left bound right) }
+        ensures { grouped self.new ≡ with_group (grouped self.old) place (parted (group_of (grouped self.old) place) place.slot left.to left.bound right) }
     {
         let at = self.node_of(place.group);
-        insert_in(&mut self.nodes, at, place.slot, left, bound, right);
+        insert_in(&mut self.nodes, at, place.slot, left, right);
         self.leaves += 1;
     }
 }

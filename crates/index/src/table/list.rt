@@ -3,55 +3,54 @@ ghost use Rattle.std.specs.Prelude.{◌≡◌, ◌<◌, ◌≤◌, true, [], len
 ghost use Rattle.index.specs.Nodes.{items, chained, parted, joined};
 ghost use Rattle.index.specs.Search.{concat};
 ghost use Rattle.index.specs.Keeping.{AscendsWith, AscendsStill};
+ghost use Rattle.index.specs.Shape.{singles};
 ghost use Rattle.index.specs.Places.{position, place_after};
 ghost use Rattle.index.specs.Meaning.{grouped, listed, merged, split as split_groups, splits};
 
 use super::build::built;
 use super::{Index, Place};
-use crate::chain::Chain;
-use crate::chain::fill::nothing;
-use crate::node::Node;
+use crate::node::fill::empty;
+use crate::node::{Entry, Node};
+use fixed_vec::FixedVec;
 
 impl Index {
-    // The node of group g, where the group `at` has another.
-    fn chosen(&self, g: usize, at: usize, other: Node) -> Node
-        requires { g < length (grouped self.now) }
-        ensures { items result ≡ slice_index_or (slice_set (grouped self.now) at (items other)) g [] }
+    // All leaves, with another node in the place of a group's.
+    fn list_with(&self, at: usize, other: &Node) -> FixedVec<Entry, 64>
+        requires { length (concat (slice_set (grouped self.now) at (items other.now))) ≤ 64 }
+        ensures { chained result ≡ concat (slice_set (grouped self.now) at (items other.now)) }
     {
-        if g == at {
-            return other;
+        let mut all = empty();
+        for (g, node) in self.groups().iter().enumerate() {
+            let node = if g == at { other } else { node };
+            all.extend_from_slice(node.entries.as_slice()).unwrap();
         }
-        self.group_node(g)
+        all
     }
 
-    // All leaves, with another node in the place of a group's.
-    fn list_with(&self, at: usize, other: Node) -> Chain
-        requires { length (concat (slice_set (grouped self.now) at (items other))) ≤ 64 }
-        ensures { chained result ≡ concat (slice_set (grouped self.now) at (items other)) }
+    // Builds the index anew, with another node in the place of a group's.
+    fn rebuild(&mut self, group: usize, other: &Node)
+        requires few { length (concat (slice_set (grouped self.old) group (items other.now))) ≤ 64 }
+        requires some { 1 ≤ length (concat (slice_set (grouped self.old) group (items other.now))) }
+        ensures { grouped self.new ≡ singles (concat (slice_set (grouped self.old) group (items other.now))) }
     {
-        let mut out = nothing();
-        for g in 0..self.used {
-            let node = self.chosen(g, at, other);
-            out.append(&node.entries[0..node.count]);
-        }
-        out
+        let all = self.list_with(group, other);
+        *self = built(all.as_slice());
     }
 
     // Two leaves in the place of one.
-    pub(crate) fn split_leaf(&mut self, place: Place, left: usize, bound: (u64, u64), right: usize)
+    pub(crate) fn split_leaf(&mut self, place: Place, left: Entry, right: usize)
         requires { splits (grouped self.old) place ≡ true }
-        ensures groups { grouped self.new ≡ split_groups (grouped self.old) place left bound right }
-        ensures list { listed self.new ≡ parted (listed self.old) (position (grouped self.old) place) left bound right }
-        ensures ascends { AscendsWith (listed self.old) (position (grouped self.old) place) bound (listed self.new) }
+        ensures groups { grouped self.new ≡ split_groups (grouped self.old) place left.to left.bound right }
+        ensures list { listed self.new ≡ parted (listed self.old) (position (grouped self.old) place) left.to left.bound right }
+        ensures ascends { AscendsWith (listed self.old) (position (grouped self.old) place) left.bound (listed self.new) }
     {
         if self.has_room(place) {
-            self.insert(place, left, bound, right);
+            self.insert(place, left, right);
             return;
         }
-        let mut node = self.group_node(place.group);
-        node.insert(place.slot, left, bound, right);
-        let chain = self.list_with(place.group, node);
-        *self = built(&chain.entries[0..chain.count]);
+        let mut node = self.groups()[place.group];
+        node.insert(place.slot, left, right);
+        self.rebuild(place.group, &node);
     }
 
     // One leaf in the place of two neighbours.
@@ -61,10 +60,9 @@ impl Index {
         ensures list { listed self.new ≡ joined (listed self.old) (position (grouped self.old) place) leaf }
         ensures ascends { AscendsStill (listed self.old) (listed self.new) }
     {
-        self.replace_leaf(next, leaf);
-        let mut node = self.group_node(place.group);
+        self.replace(next, leaf);
+        let mut node = self.groups()[place.group];
         node.remove(place.slot);
-        let chain = self.list_with(place.group, node);
-        *self = built(&chain.entries[0..chain.count]);
+        self.rebuild(place.group, &node);
     }
 }

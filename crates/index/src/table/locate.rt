@@ -1,5 +1,5 @@
 // Locating a key: from the root down, one search in each node.
-ghost use Rattle.std.specs.Prelude.{◌≡◌, ℕ, ◌+◌, ◌<◌, true, [], length, slice_index_or};
+ghost use Rattle.std.specs.Prelude.{◌≡◌, ℕ, ◌+◌, ◌<◌, true, [], map, length, slice_index_or};
 ghost use Rattle.keys.specs.InWords.{in_words};
 ghost use Rattle.index.specs.Nodes.{items, bounds};
 ghost use Rattle.index.specs.Search.{search as place_of, front, Ascending, First};
@@ -23,12 +23,22 @@ impl Index {
         lowest(self.used) + group
     }
 
-    // The node of a group, copied.
-    pub(crate) fn group_node(&self, group: usize) -> Node
-        requires { group < length (grouped self.now) }
-        ensures { items result ≡ slice_index_or (grouped self.now) group [] }
+    // The nodes of the groups, in their order.
+    pub(crate) fn groups(&self) -> &[Node]
+        ensures { map items result.now ≡ grouped self.now }
     {
-        self.nodes[self.node_of(group)]
+        let low = lowest(self.used);
+        &self.nodes[low..low + self.used]
+    }
+
+    // Whether a place is there.
+    pub(crate) fn has(&self, place: Place) -> bool
+        ensures { result ≡ within (grouped self.now) place }
+    {
+        match self.groups().get(place.group) {
+            Some(node) => place.slot < node.entries.len(),
+            None => false,
+        }
     }
 
     // The entry of node `at` that the key belongs to.
@@ -37,8 +47,7 @@ impl Index {
         ensures place { result ≡ place_of (in_words K.Key.kind) key (bounds (table_node (grouped self.now) at)) }
         ensures within { result < length (table_node (grouped self.now) at) }
     {
-        let node = self.nodes[at];
-        search::<K>(&node.entries[0..node.count], key)
+        search::<K>(self.nodes[at].entries.as_slice(), key)
     }
 
     fn in_group<K: Key>(&self, group: usize, key: (u64, u64)) -> Place
@@ -47,7 +56,7 @@ impl Index {
         ensures slot { result.slot ≡ place_of (in_words K.Key.kind) key (bounds (slice_index_or (grouped self.now) result.group [])) }
         ensures within { within (grouped self.now) result ≡ true }
     {
-        let slot = self.entry_at::<K>(self.node_of(group), key);
+        let slot = search::<K>(self.groups()[group].entries.as_slice(), key);
         Place { group, slot }
     }
 

@@ -1,21 +1,19 @@
-use Rattle.std.proofs.Common.{length, get_or, ap, ◌∙◌, arith}
+use Rattle.std.proofs.Common.{length, ap, ◌∙◌, arith}
 use Rattle.keys.specs.InWords.{in_words}
 use Rattle.index.specs.Nodes.{bounds}
 use Rattle.index.specs.Search.{search}
-use Rattle.index.proofs.LocateLaws.{node_is, slice_items}
+use Rattle.index.proofs.LocateLaws.{node_is}
 use Rattle.index.proofs.table.Index.entry_at.Goals as goal
 
 pub search-requires : goal.search-requires
 search-requires g c =
     let x = c.args.self.now in
-    let n = get_or x.nodes c.args.at c.index-self-at.result in
-    rw (slice_items n ∙ node_is x c.args.at c.index-self-at.result c.requires.0) c.requires.1
+    rw (c.as_slice.ensures.value ∙ node_is x c.args.at c.index-self-at.result c.requires.0) c.requires.1
 
 pub returns : goal.returns
 returns g c =
     let x = c.args.self.now in
-    let n = get_or x.nodes c.args.at c.index-self-at.result in
-    let same = slice_items n ∙ node_is x c.args.at c.index-self-at.result c.requires.0 in
+    let same = c.as_slice.ensures.value ∙ node_is x c.args.at c.index-self-at.result c.requires.0 in
     record {
       place = c.search.ensures.place ∙ ap (λ es. search (in_words g.K.Key.kind) c.args.key (bounds es)) same;
       within = omega (arith, c.search.ensures.within, ap length same);

@@ -1,9 +1,9 @@
-use Rattle.std.proofs.Common.{◌<◌, ◌≤◌, length, ap, arith}
+use Rattle.std.proofs.Common.{length, ap, arith}
 use Rattle.index.specs.Nodes.{parted}
 use Rattle.index.specs.Search.{concat}
 use Rattle.index.specs.Places.{group_of}
 use Rattle.index.specs.Meaning.{grouped}
-use Rattle.index.proofs.ChangeLaws.{last_parted, length_parted, group_at, set_group, length_changed, groups_changed, each_changed, sound_changed}
+use Rattle.index.proofs.ChangeLaws.{last_parted, length_parted, group_at, changed}
 use Rattle.index.proofs.ListLaws.{length_split}
 use Rattle.index.proofs.PlaceLaws.{within_parts}
 use Rattle.index.proofs.table.Index.insert.Goals as goal
@@ -22,16 +22,16 @@ unfolding grouped
 invariant_of-self c =
     let x = c.args.self.now in
     let p = c.args.place in
+    let l = c.args.left in
     let w = within_parts (grouped x) p c.requires.0 in
-    let nodes = c.insert_in.new.nodes in
-    let is = set_group x p.group c.node_of-at.result (λ es. parted es p.slot c.args.left c.args.bound c.args.right) nodes w.0 c.node_of-at.ensures.node c.insert_in.ensures in
-    let keeps = last_parted (group_of (grouped x) p) p.slot c.args.left c.args.bound c.args.right w.1 in
+    let ch = changed x p.group c.node_of-at.result (λ es. parted es p.slot l.to l.bound c.args.right) c.insert_in.new.nodes w.0 c.node_of-at.ensures.node c.insert_in.ensures (last_parted (group_of (grouped x) p) p.slot l.to l.bound c.args.right w.1) in
+    let long = length_parted (group_of (grouped x) p) p.slot l.to l.bound c.args.right w.1 in
     record {
-      size = (x.size.0, x.size.1, length_changed x _ _ nodes is);
-      counted = (omega (arith, x.counted.0, ap (λ gs. length (concat gs)) (groups_changed x p.group _ nodes w.0 keeps is), length_split (grouped x) p.group p.slot c.args.left c.args.bound c.args.right w.0 w.1), omega (arith, x.counted.0, c.requires.1.1));
-      full = each_changed x p.group _ nodes w.0 keeps is (λ es. 0 < length es) (omega (arith, length_parted (group_of (grouped x) p) p.slot c.args.left c.args.bound c.args.right w.1)) x.full;
-      small = each_changed x p.group _ nodes w.0 keeps is (λ es. length es ≤ 5) (omega (arith, length_parted (group_of (grouped x) p) p.slot c.args.left c.args.bound c.args.right w.1, c.requires.1.0)) x.small;
-      sound = sound_changed x p.group _ nodes w.0 keeps is;
+      size = (x.size.0, x.size.1, ch.long);
+      counted = (omega (arith, x.counted.0, ap (λ gs. length (concat gs)) ch.all, length_split (grouped x) p.group p.slot l.to l.bound c.args.right w.0 w.1), omega (arith, x.counted.0, c.requires.1.1));
+      full = ch.full (omega (arith, long));
+      small = ch.small (omega (arith, long, c.requires.1.0));
+      sound = ch.sound;
     }
 
 pub returns : goal.returns
@@ -39,8 +39,6 @@ unfolding grouped
 returns c =
     let x = c.args.self.now in
     let p = c.args.place in
+    let l = c.args.left in
     let w = within_parts (grouped x) p c.requires.0 in
-    let nodes = c.insert_in.new.nodes in
-    let is = set_group x p.group c.node_of-at.result (λ es. parted es p.slot c.args.left c.args.bound c.args.right) nodes w.0 c.node_of-at.ensures.node c.insert_in.ensures in
-    let keeps = last_parted (group_of (grouped x) p) p.slot c.args.left c.args.bound c.args.right w.1 in
-    groups_changed x p.group _ nodes w.0 keeps is
+    (changed x p.group c.node_of-at.result (λ es. parted es p.slot l.to l.bound c.args.right) c.insert_in.new.nodes w.0 c.node_of-at.ensures.node c.insert_in.ensures (last_parted (group_of (grouped x) p) p.slot l.to l.bound c.args.right w.1)).all

@@ -7,4 +7,4 @@ use Rattle.index.proofs.table.Index.list_with.Given as goal
 abbrev pub invariant-loop-g : goal.invariant-loop-g
 invariant-loop-g l =
     let gs = set (grouped l.self) l.at (items l.other) in
-    chained l.out ++ concat (drop l.g gs) ≡ concat gs
+    chained l.all ++ concat (drop l.g gs) ≡ concat gs

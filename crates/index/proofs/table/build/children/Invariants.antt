@@ -1,9 +1,9 @@
-use Rattle.std.proofs.Common.{◌≡◌, ◌+◌, ◌++◌, drop}
-use Rattle.index.specs.Nodes.{items, bounds}
+use Rattle.std.proofs.Common.{◌≡◌, length, take}
+use Rattle.fixed_vec.specs.Items.{items}
+use Rattle.index.specs.Nodes.{bounds}
 use Rattle.index.specs.Shape.{numbered}
 use Rattle.index.proofs.table.build.children.Given as goal
 
 abbrev pub invariant-loop-i : goal.invariant-loop-i
 invariant-loop-i l =
-    (items l.out ++ numbered (l.first + l.i) (bounds (drop l.i l.entries)) ≡ numbered l.first (bounds l.entries))
-    × (l.out.count ≡ l.i)
+    record { so_far : items l.children ≡ numbered l.first (bounds (take l.i l.entries)); count : length (items l.children) ≡ l.i }

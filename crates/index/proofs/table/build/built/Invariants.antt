@@ -1,9 +1,0 @@
-use Rattle.std.proofs.Common.{◌≡◌, ℕ, ◌<◌, [], map, length, get_or}
-use Rattle.index.specs.Nodes.{items}
-use Rattle.index.specs.Shape.{table, singles}
-use Rattle.index.proofs.table.build.built.Given as goal
-
-abbrev pub invariant-loop-i : goal.invariant-loop-i
-invariant-loop-i l =
-    (length l.nodes ≡ 91)
-    × ((k : ℕ) → k < l.i → get_or (map items l.nodes) k [] ≡ table (singles l.entries) k)
