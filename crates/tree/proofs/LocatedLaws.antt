@@ -1,7 +1,9 @@
 -- The leaf that a sound logbook's index locates is where the key belongs, and can be asked.
-use Rattle.std.proofs.Common.{◌≡◌, ℕ, zero, suc, ◌+◌, ◌*◌, ◌≤◌, Bool, cond, List, [], ◌∷◌, ◌++◌, length, get_or, None, Ok, Err, Option, Result, sym, refl, ap, ◌∙◌, arith}
+use Rattle.std.proofs.Common.{◌≡◌, ℕ, zero, suc, ◌+◌, ◌*◌, ◌≤◌, Bool, cond, List, [], ◌∷◌, ◌++◌, length, get_or, Some, None, Ok, Err, Option, Result, sym, refl, ap, ◌∙◌, arith}
 use Rattle.std.proofs.lemmas.Bool.Decides.{nat_tests}
 use Rattle.refusal.specs.declared.Refusal.{Refusal}
+use Rattle.refusal.specs.declared.Refusal.TheVariants.{Absent}
+use Rattle.std.specs.Option.{ok_or}
 use Rattle.keys.specs.InWords.{WordKind, WordOrdered}
 use Rattle.leaves.specs.Layout.{count_of, next_of, word}
 use Rattle.leaves.specs.Opening.{greatest}
@@ -113,3 +115,8 @@ module _ (o : WordKind) (ordered : WordOrdered o) (m : List ℕ) (s : State) (w 
       let f = h ∙ granted_here (λ n. lookup w (pairs o m leaf n)) in
       let same : told ≡ lookup w (pairs o m leaf (count_of m leaf)) = cc in
       ap found (same ∙ sym (finds_hold o ordered m l.pre leaf l.post w l.belongs)) ∙ answers o s w leaf (found (lookup w (book o m))) is
+
+-- A reading, or the refusal of a key that is absent.
+pub found_or : (told : Option ℕ) → ok_or told Absent ≡ found told
+found_or None = refl
+found_or (Some r) = refl

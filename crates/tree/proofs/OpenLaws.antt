@@ -1,8 +1,9 @@
 -- A logbook that has opened is sound.
-use Rattle.std.proofs.Common.{◌≡◌, ℕ, zero, suc, ◌+◌, ◌*◌, ◌<◌, ◌≤◌, Bool, true, ◌&&◌, leb, List, [], ◌∷◌, ◌++◌, length, get_or, get_or-take, length-take, take, set, Some, None, Ok, Option, Result, sym, refl, ap, ◌∙◌, subst, ⊎_elim, add-one, arith}
+use Rattle.std.proofs.Common.{◌≡◌, ℕ, zero, suc, ◌+◌, ◌*◌, ◌<◌, ◌≤◌, Bool, true, ◌&&◌, leb, List, [], ◌∷◌, ◌++◌, length, get_or, length-take, take, Some, None, Ok, Option, Result, sym, refl, ap, ◌∙◌, subst, ⊎_elim, add-one, arith}
 use Rattle.std.proofs.lemmas.Bool.Decides.{nat_tests}
 use Rattle.std.proofs.lemmas.Bool.{cases_Bool, cond-true, cond-false}
-use Rattle.std.proofs.lemmas.List.{get_or-map, take-map, take_more_set}
+use Rattle.std.proofs.lemmas.List.{get_or-map}
+use Rattle.fixed_vec.specs.Items.{joined}
 use Rattle.keys.specs.InWords.{WordKind, WordOrdered}
 use Rattle.refusal.specs.declared.Refusal.{Refusal}
 use Rattle.leaves.specs.Asking.{granted}
@@ -15,7 +16,9 @@ use Rattle.books.proofs.OpensLaws.{opens_from}
 use Rattle.index.specs.declared.node.Entry.{Entry}
 use Rattle.index.specs.Nodes.{bounds, entry, numbers}
 use Rattle.index.specs.Search.{Above, Ascending, concat, front}
-use Rattle.index.specs.Meaning.{built, listed}
+use Rattle.index.specs.Meaning.{built, grouped, grouped_in, listed}
+use Rattle.index.specs.declared.table.Index.{Index}
+use Rattle.std.specs.Option.{MatchOption}
 use Rattle.index.specs.Shape.{singles}
 use Rattle.tree.specs.Shape.{blank, built_shape, found_shape, groups, open_shape, open_told, paired, shape_of, tops, top_at, top_told}
 use Rattle.tree.specs.Sound.{Fits, Sound}
@@ -34,7 +37,7 @@ bounds_paired [] (b ∷ bs) e = absurd (omega arith)
 bounds_paired (k ∷ ks) [] e = absurd (omega arith)
 bounds_paired (k ∷ ks) (b ∷ bs) e = ap (λ xs. b ∷ xs) (bounds_paired ks bs (omega arith))
 
-length_tops : (o : WordKind) (m ks : List ℕ) → length ks ≡ length (tops o m ks)
+pub length_tops : (o : WordKind) (m ks : List ℕ) → length ks ≡ length (tops o m ks)
 length_tops o m [] = refl
 length_tops o m (k ∷ ks) = ap suc (length_tops o m ks)
 
@@ -97,12 +100,14 @@ length_paired (k ∷ ks) [] e = absurd (omega arith)
 length_paired (k ∷ ks) (b ∷ bs) e = ap suc (length_paired ks bs (omega arith))
 
 -- One turn of taking up the leaves of a chain.
-pub entries_more : (ks : List ℕ) (bs : List (ℕ × ℕ)) (es : List Entry) (i : ℕ) → i < length ks → i < length bs → i < length es
-    → take i es ≡ paired (take i ks) (take i bs)
-    → take (i + 1) (set es i (entry (get_or ks i 0) (get_or bs i (0, 0)))) ≡ paired (take (i + 1) ks) (take (i + 1) bs)
-entries_more ks bs es i h g l was =
-    take_more_set es i (entry (get_or ks i 0) (get_or bs i (0, 0))) l
-    ∙ (ap (λ xs. xs ++ (entry (get_or ks i 0) (get_or bs i (0, 0)) ∷ [])) was ∙ rw add-one (sym (paired_more ks bs i h g)))
+pub entries_more : (ks : List ℕ) (bs : List (ℕ × ℕ)) (es more : List Entry) (e : Entry) (i : ℕ) → i < length ks → length ks ≡ length bs → length ks < 64
+    → e ≡ entry (get_or ks i 0) (get_or bs i (0, 0)) → es ≡ paired (take i ks) (take i bs) → more ≡ joined 64 es (e ∷ []) → more ≡ paired (take (i + 1) ks) (take (i + 1) bs)
+entries_more ks bs es more e i h same few is was push =
+    let front = length-take i ks in
+    let other = length-take i bs in
+    let long : length es ≡ i = ap length was ∙ length_paired (take i ks) (take i bs) (omega arith) ∙ omega arith in
+    let room : leb (length es + 1) 64 ≡ true = grind (arith, nat_tests) in
+    push ∙ cond-true (leb (length es + 1) 64) _ _ room ∙ rw (was, is, add-one) (sym (paired_more ks bs i h (omega arith)))
 
 -- The greatest key of a leaf of an opened chain, asked from outside.
 asked_top : (o : WordKind) (m : List ℕ) (link n : ℕ) (alone : Bool) (bound : Option (ℕ × ℕ)) (ks : List ℕ) (i : ℕ) → i < length ks → Leads m link ks → UpTo n ks → AllFine o m alone bound ks → n ≤ 64 → 8 + 72 * n ≤ length m
@@ -113,33 +118,34 @@ asked_top o m link n alone bound (k ∷ ks) zero lt leads within fine most fits 
 asked_top o m link n alone bound (k ∷ ks) (suc i) lt leads within fine most fits =
     asked_top o m (next_of m k) n alone (greatest o m k (count_of m k)) ks i (omega arith) leads.2 within.1 fine.1 most fits
 
--- The leaves of an opened chain stand in the first places of its 64.
-module _ (o : WordKind) (m leaves : List ℕ) (len : ℕ) (opened : open_answer o m ≡ Ok (take len leaves)) (room : length leaves ≡ 64) where
-  pub in_chain : len < 64
-  in_chain =
-      let opens = opens_from o m (take len leaves) opened in
-      omega (arith, opens.spare, opens.most, length-take len leaves)
+-- The leaves of an opened chain.
+module _ (o : WordKind) (m ks : List ℕ) (opened : open_answer o m ≡ Ok ks) where
+  pub in_chain : (0 < length ks) × (length ks < 64)
+  in_chain = let opens = opens_from o m ks opened in (opens.some, omega (arith, opens.spare, opens.most))
 
-  pub top_is : (i : ℕ) → i < len → top_at o m (get_or leaves i 0) ≡ get_or (tops o m leaves) i (0, 0)
+  pub top_is : (i : ℕ) → i < length ks → top_at o m (get_or ks i 0) ≡ get_or (tops o m ks) i (0, 0)
   top_is i lt =
-      let opens = opens_from o m (take len leaves) opened in
-      let inside = in_chain in
-      let at : get_or (take len leaves) i 0 ≡ get_or leaves i 0 = get_or-take len leaves i 0 lt in
-      let top = asked_top o m (word m 2) (word m 3) (lone (take len leaves)) None (take len leaves) i (omega (arith, length-take len leaves)) opens.leads opens.within opens.fine opens.most opens.fits in
-      (rw at at top) ∙ sym (get_or-map (λ k. value (greatest o m k (count_of m k))) leaves i 0 (0, 0) (omega arith))
+      let opens = opens_from o m ks opened in
+      let top = asked_top o m (word m 2) (word m 3) (lone ks) None ks i lt opens.leads opens.within opens.fine opens.most opens.fits in
+      top ∙ sym (get_or-map (λ k. value (greatest o m k (count_of m k))) ks i 0 (0, 0) lt)
 
   -- The index that is built of them.
-  pub built_is : (es : List Entry) (x : List (List Entry)) → es ≡ paired (take len leaves) (take len (tops o m leaves)) → Some x ≡ built es → groups x ≡ built_shape (take len leaves) (tops o m (take len leaves))
-  built_is es x same some =
-      let ks = take len leaves in
-      let opens = opens_from o m ks opened in
-      let bs : take len (tops o m leaves) ≡ tops o m ks = take-map (λ k. value (greatest o m k (count_of m k))) len leaves in
-      let is : es ≡ paired ks (tops o m ks) = same ∙ ap (paired ks) bs in
+  pub built_is : (es : List Entry) (made : Option (List (List Entry))) → es ≡ paired ks (tops o m ks) → made ≡ built es
+      → made ≡ Some (singles (paired ks (tops o m ks)))
+  built_is es made is build =
       let long : length es ≡ length ks = ap length is ∙ length_paired ks (tops o m ks) (length_tops o m ks) in
-      let test : (leb 1 (length es) && leb (length es) 64) ≡ true = (let a = opens.some in let b = opens.spare in let c = opens.most in grind (arith, nat_tests)) in
-      let here : (leb 1 (length ks) && leb (length ks) 64) ≡ true = rw long at test in
-      let single : x ≡ singles es = (let e = some ∙ cond-true (leb 1 (length es) && leb (length es) 64) (Some (singles es)) None test in cc) in
-      ap groups (single ∙ ap singles is) ∙ sym (cond-true (leb 1 (length ks) && leb (length ks) 64) (groups (singles (paired ks (tops o m ks)))) blank here)
+      let test : (leb 1 (length es) && leb (length es) 64) ≡ true = (let few = in_chain in grind (arith, nat_tests)) in
+      build ∙ cond-true (leb 1 (length es) && leb (length es) 64) (Some (singles es)) None test ∙ ap (λ (xs : List Entry). Some (singles xs)) is
+
+  pub shape_built : groups (singles (paired ks (tops o m ks))) ≡ built_shape ks (tops o m ks)
+  shape_built =
+      let test : (leb 1 (length ks) && leb (length ks) 64) ≡ true = (let few = in_chain in grind (arith, nat_tests)) in
+      sym (cond-true (leb 1 (length ks) && leb (length ks) 64) (groups (singles (paired ks (tops o m ks)))) blank test)
+
+-- The state that such an index makes.
+pub shape_made : (made : Option Index) (r : State) (gs : List (List Entry)) → grouped_in made ≡ Some gs → MatchOption made (r ≡ Blank) (λ x. r ≡ Open x) → shape_of r ≡ groups gs
+shape_made None r gs e is = let z : ◌≡◌ {A = ℕ} 0 1 = cc in absurd (omega arith)
+shape_made (Some x) r gs e is = rw is (let f : grouped x ≡ gs = cc in ap groups f)
 
 concat_singles : (es : List Entry) → concat (singles es) ≡ es
 concat_singles [] = refl

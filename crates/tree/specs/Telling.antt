@@ -9,6 +9,7 @@ use Rattle.index.specs.Meaning.{grouped, listed}
 use Rattle.index.specs.Showing.{Telling, node_told}
 use Rattle.index.specs.Nodes.{bounds, entry}
 use Rattle.index.specs.Search.{Ascending, front, search}
+use Rattle.index.specs.declared.table.Index.{Index}
 use Rattle.tree.specs.declared.logbook.State.{State}
 use Rattle.tree.specs.declared.logbook.State.TheVariants.{Blank, Open, Dark}
 
@@ -17,6 +18,12 @@ abbrev pub asked : {X : Type 0} → State → Result X Refusal → Result X Refu
 asked Blank answer = Err NotOpened
 asked (Open x) answer = answer
 asked Dark answer = Err NoPower
+
+-- The index of an open logbook.
+abbrev pub indexed : State → Result Index Refusal
+indexed Blank = Err NotOpened
+indexed (Open x) = Ok x
+indexed Dark = Err NoPower
 
 abbrev pub found : Option ℕ → Result ℕ Refusal
 found None = Err Absent

@@ -1,11 +1,12 @@
 // Find.
-ghost use Rattle.std.specs.Prelude.{◌≡◌, slice_index_or};
+ghost use Rattle.std.specs.Prelude.{◌≡◌, slice_index_or, Err, MatchResult};
 ghost use Rattle.index.specs.Meaning.{listed};
 ghost use Rattle.index.specs.Nodes.{bounds, entry};
 ghost use Rattle.index.specs.Search.{Ascending, front, search};
 ghost use Rattle.keys.specs.InWords.{in_words};
 ghost use Rattle.tree.specs.Sound.{Sound};
-ghost use Rattle.tree.specs.Telling.{Rising, find_answer, leaf_for_key};
+ghost use Rattle.tree.specs.Telling.{Rising, find_answer, indexed, leaf_for_key};
+ghost use Rattle.tree.specs.declared.logbook.State.TheVariants.{Open};
 
 use super::{Logbook, State};
 use index::table::Index;
@@ -19,22 +20,27 @@ fn located<K: Key>(index: &Index, key: (u64, u64)) -> usize
     ensures { Ascending (in_words K.Key.kind) (front (bounds (listed index.now))) → result ≡ (slice_index_or (listed index.now) (search (in_words K.Key.kind) key (bounds (listed index.now))) (entry 0 (0, 0))).to }
 {
     let place = index.locate::<K>(key);
-    match index.entry(place) {
-        Some(entry) => entry.to,
-        None => 0,
-    }
+    index.entry(place).map_or(0, |entry| entry.to)
 }
 
 impl<K: Key, M: Memory> Logbook<K, M> {
-    // The leaf where a key belongs; refused unless the logbook is open.
-    pub(crate) fn leaf_for(&self, key: (u64, u64)) -> Result<usize, Refusal>
-        ensures { Rising (in_words K.Key.kind) self.now.state → result ≡ leaf_for_key (in_words K.Key.kind) self.now.state key }
+    // The index of an open logbook; refused unless it is open.
+    pub(crate) fn index(&self) -> Result<&Index, Refusal>
+        ensures { MatchResult result (λ index. self.now.state ≡ Open index.now) (λ refusal. indexed self.now.state ≡ Err refusal) }
     {
         match &self.state {
             State::Blank => Err(Refusal::Blank),
             State::Dark => Err(Refusal::NoPower),
-            State::Open(index) => Ok(located::<K>(index, key)),
+            State::Open(index) => Ok(index),
         }
+    }
+
+    // The leaf where a key belongs; refused unless the logbook is open.
+    pub(crate) fn leaf_for(&self, key: (u64, u64)) -> Result<usize, Refusal>
+        ensures { Rising (in_words K.Key.kind) self.now.state → result ≡ leaf_for_key (in_words K.Key.kind) self.now.state key }
+    {
+        let index = self.index()?;
+        Ok(located::<K>(index, key))
     }
 
     // The reading of a key; refused where it is not in the book.
@@ -46,9 +52,6 @@ impl<K: Key, M: Memory> Logbook<K, M> {
     {
         let words = key.pack();
         let leaf = self.leaf_for(words)?;
-        match find_in::<K, M>(&mut self.memory, leaf, words)? {
-            Some(reading) => Ok(reading),
-            None => Err(Refusal::Absent),
-        }
+        find_in::<K, M>(&mut self.memory, leaf, words)?.ok_or(Refusal::Absent)
     }
 }

@@ -16,10 +16,6 @@ impl<K: Key, M: Memory> Logbook<K, M> {
         ensures answer { result ≡ asked self.now.state (if nat_lt 90 i then Err Outside else Ok tt) }
         ensures filled { told out.new ≡ node_after self.now.state i (told out.old) }
     {
-        match &self.state {
-            State::Blank => Err(Refusal::Blank),
-            State::Dark => Err(Refusal::NoPower),
-            State::Open(index) => index.node(i, out),
-        }
+        self.index()?.node(i, out)
     }
 }

@@ -1,11 +1,12 @@
 // Open.
-ghost use Rattle.std.specs.Prelude.{◌≡◌, take, Ok, MatchResult};
+ghost use Rattle.std.specs.Prelude.{◌≡◌, Ok, MatchResult};
 ghost use Rattle.keys.specs.InWords.{in_words};
 ghost use Rattle.leaves.specs.Opening.{open_answer};
 ghost use Rattle.tree.specs.Sound.{Sound};
 ghost use Rattle.tree.specs.Shape.{built_shape, open_shape, open_told, shape_of, top_at, tops};
 
 use super::{Logbook, State};
+use fixed_vec::FixedVec;
 use index::node::Entry;
 use index::table::Index;
 use keys::Key;
@@ -20,34 +21,27 @@ fn top<K: Key, M: Memory>(memory: &mut M, leaf: usize) -> (u64, u64)
     ensures same { M.Memory.meaning memory.new ≡ M.Memory.meaning memory.old }
     ensures value { result ≡ top_at (in_words K.Key.kind) (M.Memory.meaning memory.old).live leaf }
 {
-    match greatest_in::<K, M>(memory, leaf) {
-        Ok(Some(key)) => key,
-        Ok(None) => (0, 0),
-        Err(_) => (0, 0),
-    }
+    let greatest = greatest_in::<K, M>(memory, leaf);
+    greatest.ok().flatten().unwrap_or((0, 0))
 }
 
-// The state of a logbook that has found the first `len` of these leaves in its memory.
-fn opened<K: Key, M: Memory>(memory: &mut M, leaves: [usize; 64], len: usize) -> State
-    requires { open_answer (in_words K.Key.kind) (M.Memory.meaning memory.old).live ≡ Ok (take len leaves) }
+// The state of a logbook that has found these leaves in its memory.
+fn opened<K: Key, M: Memory>(memory: &mut M, leaves: &[usize]) -> State
+    requires { open_answer (in_words K.Key.kind) (M.Memory.meaning memory.old).live ≡ Ok leaves.now }
     ensures same { M.Memory.meaning memory.new ≡ M.Memory.meaning memory.old }
-    ensures shape { shape_of result ≡ built_shape (take len leaves) (tops (in_words K.Key.kind) (M.Memory.meaning memory.old).live (take len leaves)) }
+    ensures shape { shape_of result ≡ built_shape leaves.now (tops (in_words K.Key.kind) (M.Memory.meaning memory.old).live leaves.now) }
 {
-    let mut entries = [Entry {
+    let mut entries = FixedVec::<Entry, 64>::new(Entry {
         to: 0,
         bound: (0, 0),
-    }; 64];
-    for i in 0..len {
-        let leaf = leaves[i];
-        entries[i] = Entry {
-            to: leaf,
-            bound: top::<K, M>(memory, leaf),
-        };
+    });
+    for leaf in leaves {
+        let _ = entries.push(Entry {
+            to: *leaf,
+            bound: top::<K, M>(memory, *leaf),
+        });
     }
-    match Index::build(&entries[0..len]) {
-        Some(index) => State::Open(index),
-        None => State::Blank,
-    }
+    Index::build(entries.as_slice()).map_or(State::Blank, State::Open)
 }
 
 impl<K: Key, M: Memory> Logbook<K, M> {
@@ -60,15 +54,11 @@ impl<K: Key, M: Memory> Logbook<K, M> {
         ensures sound { Sound (in_words K.Key.kind) (M.Memory.meaning self.new.memory).live self.new.state }
     {
         if let State::Dark = self.state {
-            return Err(Fault {
-                refusal: Refusal::NoPower,
-                leaf: 0,
-                slot: 0,
-            });
+            return Err(Refusal::NoPower.into());
         }
         match open::<K, M>(&mut self.memory) {
             Ok(chain) => {
-                self.state = opened::<K, M>(&mut self.memory, chain.leaves, chain.len);
+                self.state = opened::<K, M>(&mut self.memory, chain.as_slice());
                 self.taken = 0;
                 Ok(())
             }

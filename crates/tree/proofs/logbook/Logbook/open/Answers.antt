@@ -19,7 +19,7 @@ returns-in-Ok g c =
     let bs = tops o m ks in
     let same = c.opened-self.ensures.same ∙ found.same in
     let r = c.opened-self.result in
-    let shape = subst (λ (w : Words). shape_of r ≡ built_shape ks (tops o w.live ks)) found.same c.opened-self.ensures.shape in
+    let shape = subst (λ (w : Words). shape_of r ≡ built_shape ks (tops o w.live ks)) found.same (rw c.as_slice.ensures.value at c.opened-self.ensures.shape) in
     record {
       same = same;
       answer = told_open o laws m ks bs found.value refl book.state c.in_default.not-Dark;
