@@ -18,32 +18,28 @@ use Rattle.leaves.specs.Opening.{good, first_bad, first_wrong, later, greatest, 
 use Rattle.leaves.proofs.PairLaws.{lookup_applied}
 use Rattle.leaves.proofs.RunLaws.{joined_all}
 
-elements_more : (m : List ℕ) (k n : ℕ) → elements m k (n + 1) ≡ elements m k n ++ element m k n ∷ []
-elements_more m k n = map-range_with_len_more (element m k) 0 n n (omega arith)
+elements_more : (m : List ℕ) (k n : ℕ) → elements m k (suc n) ≡ elements m k n ++ element m k n ∷ []
+elements_more m k n = let e : suc n ≡ n + 1 = omega arith in ap (elements m k) e ∙ map-range_with_len_more (element m k) 0 n n (omega arith)
 
 pub elements_joined : (m : List ℕ) (k s : ℕ) → s < 16 → joined 16 (elements m k s) (element m k s ∷ []) ≡ elements m k (s + 1)
 elements_joined m k s h =
     let n = length-map-range_with_len (element m k) 0 s in
-    joined_all 16 (elements m k s) (element m k s ∷ []) (omega arith) ∙ sym (elements_more m k s)
+    joined_all 16 (elements m k s) (element m k s ∷ []) (omega arith) ∙ sym (map-range_with_len_more (element m k) 0 s s (omega arith))
 
 module _ (o : WordKind) where
   pub pairs_folded : (m : List ℕ) (k n : ℕ) → pairs o m k n ≡ folded o [] (elements m k n)
   pairs_folded m k zero = refl
   pairs_folded m k (suc n) =
-      let more : elements m k (suc n) ≡ elements m k n ++ element m k n ∷ [] = let e : suc n ≡ n + 1 = omega arith in ap (elements m k) e ∙ elements_more m k n in
-      ap (applied o (element m k n)) (pairs_folded m k n) ∙ sym (fold_push (λ ps e. applied o e ps) [] (elements m k n) (element m k n)) ∙ ap (folded o []) (sym more)
+      ap (applied o (element m k n)) (pairs_folded m k n) ∙ sym (fold_push (λ ps e. applied o e ps) [] (elements m k n) (element m k n)) ∙ ap (folded o []) (sym (elements_more m k n))
 
   -- the first bad slot, from slot s on
-  wrong_from : (m : List ℕ) (bound : Option (ℕ × ℕ)) (k s n : ℕ) → first_bad o m bound k s n ≡ first_wrong o bound (pairs o m k s) s (map (element m k) (range_with_len s n))
+  pub wrong_from : (m : List ℕ) (bound : Option (ℕ × ℕ)) (k s n : ℕ) → first_bad o m bound k s n ≡ first_wrong o bound (pairs o m k s) s (map (element m k) (range_with_len s n))
   wrong_from m bound k s zero = refl
   wrong_from m bound k s (suc n) =
       let e : s + 1 ≡ suc s = omega arith in
       let next : pairs o m k (s + 1) ≡ applied o (element m k s) (pairs o m k s) = ap (pairs o m k) e in
       ap (λ r. cond (good o bound (pairs o m k s) (element m k s)) r (Some (s + 1)))
       (wrong_from m bound k (s + 1) n ∙ ap (λ ps. first_wrong o bound ps (s + 1) (map (element m k) (range_with_len (s + 1) n))) next)
-
-  pub bad_wrong : (m : List ℕ) (bound : Option (ℕ × ℕ)) (k n : ℕ) → first_bad o m bound k 0 n ≡ first_wrong o bound [] 0 (elements m k n)
-  bad_wrong m bound k n = wrong_from m bound k 0 n
 
   -- one turn of looking for the first bad element
   pub wrong_turn : (bound : Option (ℕ × ℕ)) (es : List Element) (i : ℕ) (d : Element) → i < length es
@@ -60,8 +56,7 @@ module _ (o : WordKind) where
   pub greatest_reduced : (m : List ℕ) (k n : ℕ) → greatest o m k n ≡ greatest_key o (elements m k n)
   greatest_reduced m k zero = refl
   greatest_reduced m k (suc n) =
-      let more : elements m k (suc n) ≡ elements m k n ++ element m k n ∷ [] = let e : suc n ≡ n + 1 = omega arith in ap (elements m k) e ∙ elements_more m k n in
-      ap (λ b. Some (later o (element m k n).key b)) (greatest_reduced m k n) ∙ sym (key_push (elements m k n) (element m k n)) ∙ ap (greatest_key o) (sym more)
+      ap (λ b. Some (later o (element m k n).key b)) (greatest_reduced m k n) ∙ sym (key_push (elements m k n) (element m k n)) ∙ ap (greatest_key o) (sym (elements_more m k n))
 
 -- What is said of the slots that a leaf counts.
 pub answered : {X : Type 0} {r : Result ℕ Refusal} {n : ℕ} {x : X} (say : ℕ → X) → Ok n ≡ r → x ≡ say n → Ok x ≡ granted r say

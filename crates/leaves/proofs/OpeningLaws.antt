@@ -9,7 +9,7 @@ use Rattle.leaves.specs.declared.leaf.Element.{Element}
 use Rattle.leaves.specs.declared.open.Fault.{Fault}
 use Rattle.leaves.specs.Layout.{word, elements, next_of, count_of, form_of}
 use Rattle.leaves.specs.Opening.{bad_link_of, first_wrong, leaf_fault, greatest, greatest_key, member, ended, checked, walk}
-use Rattle.leaves.proofs.ElementLaws.{bad_wrong, greatest_reduced}
+use Rattle.leaves.proofs.ElementLaws.{wrong_from, greatest_reduced}
 
 -- A leaf's fault stands whatever comes after the leaf.
 pub checked_err : {X Y : Type 0} (leaf : ℕ) (f : Option ℕ) (x : X) {e : Fault} (r : Result Y Fault) → checked leaf f (Ok x) ≡ Err e → checked leaf f r ≡ Err e
@@ -26,7 +26,7 @@ module _ (o : WordKind) (m : List ℕ) (bound : Option (ℕ × ℕ)) (alone : Bo
   fault_is : leaf_fault o m bound alone k ≡ first_wrong o bound [] 0 es
   fault_is =
       let h : (leb (count_of m k) 16 && eqb (form_of m k) 0 && (alone || ltb 0 (count_of m k))) ≡ true = rw (← counted, ← formed) (sym fine ∙ is) in
-      cond-true _ _ _ h ∙ bad_wrong o m bound k (count_of m k) ∙ ap (first_wrong o bound [] 0) (sym (rw counted at read))
+      cond-true _ _ _ h ∙ wrong_from o m bound k 0 (count_of m k) ∙ ap (first_wrong o bound [] 0) (sym (rw counted at read))
 
   pub check_err : {e : Fault} → Err e ≡ checked {X = Unit {0}} k (first_wrong o bound [] 0 es) (Ok tt) → Err e ≡ checked k (leaf_fault o m bound alone k) (Ok (greatest o m k (count_of m k)))
   check_err each = sym (checked_err k (leaf_fault o m bound alone k) tt (Ok (greatest o m k (count_of m k))) (ap (λ f. checked {X = Unit {0}} k f (Ok tt)) fault_is ∙ sym each))
