@@ -1,15 +1,12 @@
 -- What is read of a leaf's elements, said of the leaf's slots.
-use Rattle.std.proofs.Common.{◌≡◌, ℕ, zero, suc, ◌+◌, ◌<◌, Bool, true, false, cond, List, [], ◌∷◌, ◌++◌, length, get_or, take, drop, map, reverse, Some, None, Ok, Option, Result, option_and_then, sym, refl, ap, ◌∙◌, arith}
+use Rattle.std.proofs.Common.{◌≡◌, ℕ, zero, suc, ◌+◌, ◌<◌, true, false, cond, List, [], ◌∷◌, ◌++◌, length, get_or, take, drop, map, reverse, Some, Ok, Option, Result, option_and_then, sym, refl, ap, ◌∙◌, arith}
 use Rattle.std.specs.List.{find, fold, range_with_len}
-use Rattle.std.specs.Option.{option_or}
-use Rattle.std.proofs.lemmas.List.{drop_more, map-append, reverse-append}
-use Rattle.std.proofs.lemmas.List.Folds.{find-append}
+use Rattle.std.proofs.lemmas.List.{drop_more, map-append, reverse-append, reverse-reverse}
 use Rattle.std.proofs.lemmas.List.Sums.{fold_more, fold_push}
 use Rattle.std.proofs.lemmas.List.FromFn.{length-map-range_with_len, map-range_with_len_more}
 use Rattle.fixed_vec.specs.Items.{joined}
 use Rattle.keys.specs.InWords.{WordKind, WordOrdered}
 use Rattle.leaves.specs.declared.leaf.Element.{Element}
-use Rattle.leaves.specs.declared.leaf.Pair.{Pair}
 use Rattle.leaves.specs.Layout.{element, elements}
 use Rattle.leaves.specs.Pairs.{equal, lookup, held, applied, folded, latest, pairs}
 use Rattle.refusal.specs.declared.Refusal.{Refusal}
@@ -62,32 +59,18 @@ module _ (o : WordKind) where
 pub answered : {X : Type 0} {r : Result ℕ Refusal} {n : ℕ} {x : X} (say : ℕ → X) → Ok n ≡ r → x ≡ say n → Ok x ≡ granted r say
 answered say is at = rw (← is) (ap Ok at)
 
--- What is said of a key that had this before: by its newest element, if it has one.
-abbrev said : Option Element → Option ℕ → Option ℕ
-said (Some e) r = held e
-said None r = r
-
-said_more : (f : Option Element) (b : Bool) (e : Element) (r : Option ℕ) → said f (cond b (held e) r) ≡ said (option_or f (cond b (Some e) None)) r
-said_more (Some d) b e r = refl
-said_more None true e r = refl
-said_more None false e r = refl
-
-said_first : (f : Option Element) → said f None ≡ option_and_then held f
-said_first (Some e) = refl
-said_first None = refl
-
 module _ (o : WordKind) (ordered : WordOrdered o) (w : ℕ × ℕ) where
-  lookup_after : (ps : List Pair) (es : List Element) → lookup w (folded o ps es) ≡ said (find (λ e. equal e.key w) (reverse es)) (lookup w ps)
-  lookup_after ps [] = refl
-  lookup_after ps (e ∷ es) =
-      let p : Element → Bool = λ d. equal d.key w in
-      lookup_after (applied o e ps) es
-      ∙ ap (said (find p (reverse es))) (lookup_applied o ordered w e ps)
-      ∙ said_more (find p (reverse es)) (equal e.key w) e (lookup w ps)
-      ∙ ap (λ f. said f (lookup w ps)) (sym (ap (find p) (reverse-append (e ∷ []) es) ∙ find-append p (reverse es) (e ∷ [])))
+  -- the newest element of a key decides, here of elements from the newest on
+  lookup_reversed : (es : List Element) → lookup w (folded o [] (reverse es)) ≡ option_and_then held (find (λ e. equal e.key w) es)
+  lookup_reversed [] = refl
+  lookup_reversed (e ∷ es) =
+      let more = ap (folded o []) (reverse-append (e ∷ []) es) ∙ fold_push (λ ps d. applied o d ps) [] (reverse es) e in
+      let one = lookup_applied o ordered w e (folded o [] (reverse es)) in
+      ap (lookup w) more ∙ one
+      ∙ elim (equal e.key w) as (λ b. cond b (held e) (lookup w (folded o [] (reverse es))) ≡ option_and_then held (cond b (Some e) (find (λ d. equal d.key w) es))) [ true ↦ refl | false ↦ lookup_reversed es ]
 
   pub lookup_folded : (es : List Element) → lookup w (folded o [] es) ≡ latest w es
-  lookup_folded es = lookup_after [] es ∙ said_first (find (λ e. equal e.key w) (reverse es))
+  lookup_folded es = ap (λ ds. lookup w (folded o [] ds)) (sym (reverse-reverse es)) ∙ lookup_reversed (reverse es)
 
   pub lookup_pairs : (m : List ℕ) (k n : ℕ) → latest w (elements m k n) ≡ lookup w (pairs o m k n)
   lookup_pairs m k n = sym (ap (lookup w) (pairs_folded o m k n) ∙ lookup_folded (elements m k n))
