@@ -1,6 +1,5 @@
 -- Building a run from another.
-use Rattle.std.proofs.Common.{◌≡◌, ℕ, suc, ◌+◌, ◌<◌, ◌≤◌, true, false, cond, List, [], ◌∷◌, ◌++◌, length, get_or, take, drop, sym, refl, ap, ◌∙◌, append_assoc, length-append, length-take, length-drop, arith}
-use Rattle.std.proofs.lemmas.List.{take_more}
+use Rattle.std.proofs.Common.{◌≡◌, ℕ, suc, ◌+◌, ◌≤◌, true, false, cond, List, [], ◌∷◌, ◌++◌, length, take, drop, sym, refl, ap, ◌∙◌, append_assoc, length-append, length-take, length-drop, arith}
 use Rattle.std.proofs.lemmas.List.Sums.{prefix_len-le-length}
 use Rattle.std.proofs.lemmas.Bool.Decides.{nat_tests}
 use Rattle.fixed_vec.specs.Items.{joined}
@@ -8,12 +7,7 @@ use Rattle.std.specs.List.{prefix_len}
 use Rattle.keys.specs.InWords.{WordKind}
 use Rattle.leaves.specs.declared.leaf.Pair.{Pair}
 use Rattle.leaves.specs.declared.leaf.Element.{Element}
-use Rattle.leaves.specs.Pairs.{equal, insert, delete, applied, folded, past_own}
-
--- one pair more before the end
-pub delete_push : (w : ℕ × ℕ) (ps : List Pair) (p : Pair) → delete w (ps ++ p ∷ []) ≡ cond (equal p.key w) (delete w ps) (delete w ps ++ p ∷ [])
-delete_push w [] p = grind arith
-delete_push w (q ∷ ps) p = let ih = delete_push w ps p in grind arith
+use Rattle.leaves.specs.Pairs.{insert, delete, applied, folded, past_own}
 
 pub length_delete : (w : ℕ × ℕ) (ps : List Pair) → length (delete w ps) ≤ length ps
 length_delete w [] = omega arith
@@ -33,9 +27,6 @@ length_applied o e ps = let i = length_insert o (record { key = e.key; reading =
 pub length_folded : (o : WordKind) (ps : List Pair) (es : List Element) → length (folded o ps es) ≤ length ps + length es
 length_folded o ps [] = omega arith
 length_folded o ps (e ∷ es) = let a = length_applied o e ps in let ih = length_folded o (applied o e ps) es in omega arith
-
-pub delete_more : (w : ℕ × ℕ) (ps : List Pair) (i : ℕ) (d : Pair) → i < length ps → delete w (take (i + 1) ps) ≡ cond (equal (get_or ps i d).key w) (delete w (take i ps)) (delete w (take i ps) ++ get_or ps i d ∷ [])
-delete_more w ps i d h = ap (delete w) (take_more ps i d h) ∙ delete_push w (take i ps) (get_or ps i d)
 
 -- where there is room, what is joined is all of it
 pub joined_all : {T : Type 0} (n : ℕ) (xs ys : List T) → length xs + length ys ≤ n → joined n xs ys ≡ xs ++ ys
