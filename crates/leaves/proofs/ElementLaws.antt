@@ -1,5 +1,5 @@
 -- What is read of a leaf's elements, said of the leaf's slots.
-use Rattle.std.proofs.Common.{◌≡◌, ℕ, zero, suc, ◌+◌, ◌<◌, true, false, cond, List, [], ◌∷◌, ◌++◌, length, get_or, take, drop, map, reverse, Some, Ok, Option, Result, option_and_then, sym, refl, ap, ◌∙◌, arith}
+use Rattle.std.proofs.Common.{◌≡◌, ℕ, zero, suc, ◌+◌, ◌<◌, true, false, cond, List, [], ◌∷◌, ◌++◌, length, get_or, take, drop, map, reverse, Some, Option, option_and_then, sym, refl, ap, ◌∙◌, arith}
 use Rattle.std.specs.List.{find, fold, range_with_len}
 use Rattle.std.proofs.lemmas.List.{drop_more, map-append, reverse-append, reverse-reverse}
 use Rattle.std.proofs.lemmas.List.Sums.{fold_more, fold_push}
@@ -9,8 +9,6 @@ use Rattle.keys.specs.InWords.{WordKind, WordOrdered}
 use Rattle.leaves.specs.declared.leaf.Element.{Element}
 use Rattle.leaves.specs.Layout.{element, elements}
 use Rattle.leaves.specs.Pairs.{equal, lookup, held, applied, folded, latest, pairs}
-use Rattle.refusal.specs.declared.Refusal.{Refusal}
-use Rattle.leaves.specs.Asking.{granted}
 use Rattle.leaves.specs.Opening.{good, first_bad, first_wrong, later, greatest, greatest_key}
 use Rattle.leaves.proofs.PairLaws.{lookup_applied}
 use Rattle.leaves.proofs.RunLaws.{joined_all}
@@ -54,10 +52,6 @@ module _ (o : WordKind) where
   greatest_reduced m k zero = refl
   greatest_reduced m k (suc n) =
       ap (λ b. Some (later o (element m k n).key b)) (greatest_reduced m k n) ∙ sym (key_push (elements m k n) (element m k n)) ∙ ap (greatest_key o) (sym (elements_more m k n))
-
--- What is said of the slots that a leaf counts.
-pub answered : {X : Type 0} {r : Result ℕ Refusal} {n : ℕ} {x : X} (say : ℕ → X) → Ok n ≡ r → x ≡ say n → Ok x ≡ granted r say
-answered say is at = rw (← is) (ap Ok at)
 
 module _ (o : WordKind) (ordered : WordOrdered o) (w : ℕ × ℕ) where
   -- the newest element of a key decides, here of elements from the newest on

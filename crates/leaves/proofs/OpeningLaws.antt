@@ -34,6 +34,10 @@ member_is : (x : ℕ) (ks : List ℕ) → list_any (λ y. eqb y x) ks ≡ member
 member_is x [] = refl
 member_is x (k ∷ ks) = let ih = member_is x ks in grind (arith, nat_tests)
 
+pub walk_ended : (o : WordKind) (m : List ℕ) (n : ℕ) (used : List ℕ) (bound : Option (ℕ × ℕ)) (from link : ℕ) → link ≡ 0 → walk o m n used bound from link ≡ ended from used
+walk_ended o m zero used bound from link z = cond-true _ _ _ (eq-eqb link 0 z)
+walk_ended o m (suc n) used bound from link z = cond-true _ _ _ (eq-eqb link 0 z)
+
 -- One turn of the walk, from what is known of it: `rest` is what remains of the answer `all`.
 module _ (o : WordKind) (m : List ℕ) (leaves : ℕ) (used : List ℕ) (bound : Option (ℕ × ℕ)) (from link : ℕ) {all : Result (List ℕ) Fault}
     (rest : walk o m (leaves - 1 - length used) used bound from link ≡ all) where
