@@ -1,5 +1,5 @@
 -- The pairs of a leaf ascend, for every content; the pairs of a memory that opens ascend from leaf to leaf.
-use Rattle.std.proofs.Common.{◌≡◌, ℕ, zero, suc, ◌<◌, true, eqb, List, [], ◌∷◌, subst, arith}
+use Rattle.std.proofs.Common.{◌≡◌, ℕ, zero, suc, ◌<◌, true, not, eqb, List, [], ◌∷◌, subst, arith}
 use Rattle.std.proofs.lemmas.Bool.{cond_both}
 use Rattle.keys.specs.InWords.{WordKind, WordOrdered}
 use Rattle.leaves.specs.declared.leaf.Pair.{Pair}
@@ -21,7 +21,7 @@ module _ (o : WordKind) where
   pub each_delete : (P : ℕ × ℕ → Type 0) (k : ℕ × ℕ) (ps : List Pair) → Each P ps → Each P (delete k ps)
   each_delete P k [] h = tt
   each_delete P k (p ∷ ps) h =
-      cond_both (equal p.key k) _ _ (Each P) (λ _. each_delete P k ps h.1) (λ _. (h.0, each_delete P k ps h.1))
+      cond_both (not (equal p.key k)) _ _ (Each P) (λ _. (h.0, each_delete P k ps h.1)) (λ _. each_delete P k ps h.1)
 
   -- what holds of the key of every element holds of every pair's key
   pub each_pairs : (P : ℕ × ℕ → Type 0) (m : List ℕ) (l n : ℕ) → ((s : ℕ) → s < n → P (element m l s).key) → Each P (pairs o m l n)
@@ -42,8 +42,8 @@ module _ (o : WordKind) (ordered : WordOrdered o) where
   pub ascending_delete : (k : ℕ × ℕ) (ps : List Pair) → Ascending o ps → Ascending o (delete k ps)
   ascending_delete k [] h = tt
   ascending_delete k (p ∷ ps) h =
-      cond_both (equal p.key k) _ _ (Ascending o) (λ _. ascending_delete k ps h.1)
-      (λ _. (each_delete o _ k ps h.0, ascending_delete k ps h.1))
+      cond_both (not (equal p.key k)) _ _ (Ascending o) (λ _. (each_delete o _ k ps h.0, ascending_delete k ps h.1))
+      (λ _. ascending_delete k ps h.1)
 
   pub ascending_pairs : (m : List ℕ) (l n : ℕ) → Ascending o (pairs o m l n)
   ascending_pairs m l zero = tt

@@ -1,49 +1,40 @@
 -- What is read of a leaf's elements, said of the leaf's slots.
-use Rattle.std.proofs.Common.{◌≡◌, ℕ, zero, suc, ◌+◌, ◌<◌, Bool, true, false, cond, List, [], ◌∷◌, ◌++◌, length, get_or, take, drop, map, reverse, Some, None, Ok, Option, Result, option_and_then, sym, refl, ap, ◌∙◌, arith}
+use Rattle.std.proofs.Common.{◌≡◌, ℕ, zero, suc, ◌+◌, ◌<◌, true, false, cond, List, [], ◌∷◌, ◌++◌, length, get_or, take, drop, map, reverse, Some, Option, option_and_then, sym, refl, ap, ◌∙◌, arith}
 use Rattle.std.specs.List.{find, fold, range_with_len}
-use Rattle.std.specs.Option.{option_or}
-use Rattle.std.proofs.lemmas.List.{drop_more, map-append, reverse-append}
-use Rattle.std.proofs.lemmas.List.Folds.{find-append}
+use Rattle.std.proofs.lemmas.List.{drop_more, map-append, reverse-append, reverse-reverse}
 use Rattle.std.proofs.lemmas.List.Sums.{fold_more, fold_push}
 use Rattle.std.proofs.lemmas.List.FromFn.{length-map-range_with_len, map-range_with_len_more}
 use Rattle.fixed_vec.specs.Items.{joined}
 use Rattle.keys.specs.InWords.{WordKind, WordOrdered}
 use Rattle.leaves.specs.declared.leaf.Element.{Element}
-use Rattle.leaves.specs.declared.leaf.Pair.{Pair}
 use Rattle.leaves.specs.Layout.{element, elements}
 use Rattle.leaves.specs.Pairs.{equal, lookup, held, applied, folded, latest, pairs}
-use Rattle.refusal.specs.declared.Refusal.{Refusal}
-use Rattle.leaves.specs.Asking.{granted}
 use Rattle.leaves.specs.Opening.{good, first_bad, first_wrong, later, greatest, greatest_key}
 use Rattle.leaves.proofs.PairLaws.{lookup_applied}
 use Rattle.leaves.proofs.RunLaws.{joined_all}
 
-elements_more : (m : List ℕ) (k n : ℕ) → elements m k (n + 1) ≡ elements m k n ++ element m k n ∷ []
-elements_more m k n = map-range_with_len_more (element m k) 0 n n (omega arith)
+elements_more : (m : List ℕ) (k n : ℕ) → elements m k (suc n) ≡ elements m k n ++ element m k n ∷ []
+elements_more m k n = let e : suc n ≡ n + 1 = omega arith in ap (elements m k) e ∙ map-range_with_len_more (element m k) 0 n n (omega arith)
 
 pub elements_joined : (m : List ℕ) (k s : ℕ) → s < 16 → joined 16 (elements m k s) (element m k s ∷ []) ≡ elements m k (s + 1)
 elements_joined m k s h =
     let n = length-map-range_with_len (element m k) 0 s in
-    joined_all 16 (elements m k s) (element m k s ∷ []) (omega arith) ∙ sym (elements_more m k s)
+    joined_all 16 (elements m k s) (element m k s ∷ []) (omega arith) ∙ sym (map-range_with_len_more (element m k) 0 s s (omega arith))
 
 module _ (o : WordKind) where
   pub pairs_folded : (m : List ℕ) (k n : ℕ) → pairs o m k n ≡ folded o [] (elements m k n)
   pairs_folded m k zero = refl
   pairs_folded m k (suc n) =
-      let more : elements m k (suc n) ≡ elements m k n ++ element m k n ∷ [] = let e : suc n ≡ n + 1 = omega arith in ap (elements m k) e ∙ elements_more m k n in
-      ap (applied o (element m k n)) (pairs_folded m k n) ∙ sym (fold_push (λ ps e. applied o e ps) [] (elements m k n) (element m k n)) ∙ ap (folded o []) (sym more)
+      ap (applied o (element m k n)) (pairs_folded m k n) ∙ sym (fold_push (λ ps e. applied o e ps) [] (elements m k n) (element m k n)) ∙ ap (folded o []) (sym (elements_more m k n))
 
   -- the first bad slot, from slot s on
-  wrong_from : (m : List ℕ) (bound : Option (ℕ × ℕ)) (k s n : ℕ) → first_bad o m bound k s n ≡ first_wrong o bound (pairs o m k s) s (map (element m k) (range_with_len s n))
+  pub wrong_from : (m : List ℕ) (bound : Option (ℕ × ℕ)) (k s n : ℕ) → first_bad o m bound k s n ≡ first_wrong o bound (pairs o m k s) s (map (element m k) (range_with_len s n))
   wrong_from m bound k s zero = refl
   wrong_from m bound k s (suc n) =
       let e : s + 1 ≡ suc s = omega arith in
       let next : pairs o m k (s + 1) ≡ applied o (element m k s) (pairs o m k s) = ap (pairs o m k) e in
       ap (λ r. cond (good o bound (pairs o m k s) (element m k s)) r (Some (s + 1)))
       (wrong_from m bound k (s + 1) n ∙ ap (λ ps. first_wrong o bound ps (s + 1) (map (element m k) (range_with_len (s + 1) n))) next)
-
-  pub bad_wrong : (m : List ℕ) (bound : Option (ℕ × ℕ)) (k n : ℕ) → first_bad o m bound k 0 n ≡ first_wrong o bound [] 0 (elements m k n)
-  bad_wrong m bound k n = wrong_from m bound k 0 n
 
   -- one turn of looking for the first bad element
   pub wrong_turn : (bound : Option (ℕ × ℕ)) (es : List Element) (i : ℕ) (d : Element) → i < length es
@@ -60,39 +51,20 @@ module _ (o : WordKind) where
   pub greatest_reduced : (m : List ℕ) (k n : ℕ) → greatest o m k n ≡ greatest_key o (elements m k n)
   greatest_reduced m k zero = refl
   greatest_reduced m k (suc n) =
-      let more : elements m k (suc n) ≡ elements m k n ++ element m k n ∷ [] = let e : suc n ≡ n + 1 = omega arith in ap (elements m k) e ∙ elements_more m k n in
-      ap (λ b. Some (later o (element m k n).key b)) (greatest_reduced m k n) ∙ sym (key_push (elements m k n) (element m k n)) ∙ ap (greatest_key o) (sym more)
-
--- What is said of the slots that a leaf counts.
-pub answered : {X : Type 0} {r : Result ℕ Refusal} {n : ℕ} {x : X} (say : ℕ → X) → Ok n ≡ r → x ≡ say n → Ok x ≡ granted r say
-answered say is at = rw (← is) (ap Ok at)
-
--- What is said of a key that had this before: by its newest element, if it has one.
-abbrev said : Option Element → Option ℕ → Option ℕ
-said (Some e) r = held e
-said None r = r
-
-said_more : (f : Option Element) (b : Bool) (e : Element) (r : Option ℕ) → said f (cond b (held e) r) ≡ said (option_or f (cond b (Some e) None)) r
-said_more (Some d) b e r = refl
-said_more None true e r = refl
-said_more None false e r = refl
-
-said_first : (f : Option Element) → said f None ≡ option_and_then held f
-said_first (Some e) = refl
-said_first None = refl
+      ap (λ b. Some (later o (element m k n).key b)) (greatest_reduced m k n) ∙ sym (key_push (elements m k n) (element m k n)) ∙ ap (greatest_key o) (sym (elements_more m k n))
 
 module _ (o : WordKind) (ordered : WordOrdered o) (w : ℕ × ℕ) where
-  lookup_after : (ps : List Pair) (es : List Element) → lookup w (folded o ps es) ≡ said (find (λ e. equal e.key w) (reverse es)) (lookup w ps)
-  lookup_after ps [] = refl
-  lookup_after ps (e ∷ es) =
-      let p : Element → Bool = λ d. equal d.key w in
-      lookup_after (applied o e ps) es
-      ∙ ap (said (find p (reverse es))) (lookup_applied o ordered w e ps)
-      ∙ said_more (find p (reverse es)) (equal e.key w) e (lookup w ps)
-      ∙ ap (λ f. said f (lookup w ps)) (sym (ap (find p) (reverse-append (e ∷ []) es) ∙ find-append p (reverse es) (e ∷ [])))
+  -- the newest element of a key decides, here of elements from the newest on
+  lookup_reversed : (es : List Element) → lookup w (folded o [] (reverse es)) ≡ option_and_then held (find (λ e. equal e.key w) es)
+  lookup_reversed [] = refl
+  lookup_reversed (e ∷ es) =
+      let more = ap (folded o []) (reverse-append (e ∷ []) es) ∙ fold_push (λ ps d. applied o d ps) [] (reverse es) e in
+      let one = lookup_applied o ordered w e (folded o [] (reverse es)) in
+      ap (lookup w) more ∙ one
+      ∙ elim (equal e.key w) as (λ b. cond b (held e) (lookup w (folded o [] (reverse es))) ≡ option_and_then held (cond b (Some e) (find (λ d. equal d.key w) es))) [ true ↦ refl | false ↦ lookup_reversed es ]
 
   pub lookup_folded : (es : List Element) → lookup w (folded o [] es) ≡ latest w es
-  lookup_folded es = lookup_after [] es ∙ said_first (find (λ e. equal e.key w) (reverse es))
+  lookup_folded es = ap (λ ds. lookup w (folded o [] ds)) (sym (reverse-reverse es)) ∙ lookup_reversed (reverse es)
 
   pub lookup_pairs : (m : List ℕ) (k n : ℕ) → latest w (elements m k n) ≡ lookup w (pairs o m k n)
   lookup_pairs m k n = sym (ap (lookup w) (pairs_folded o m k n) ∙ lookup_folded (elements m k n))

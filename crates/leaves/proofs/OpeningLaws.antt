@@ -8,8 +8,8 @@ use Rattle.keys.specs.InWords.{WordKind}
 use Rattle.leaves.specs.declared.leaf.Element.{Element}
 use Rattle.leaves.specs.declared.open.Fault.{Fault}
 use Rattle.leaves.specs.Layout.{word, elements, next_of, count_of, form_of}
-use Rattle.leaves.specs.Opening.{bad_link_of, first_wrong, leaf_fault, greatest, greatest_key, member, ended, checked, walk}
-use Rattle.leaves.proofs.ElementLaws.{bad_wrong, greatest_reduced}
+use Rattle.leaves.specs.Opening.{bad_link_of, first_bad, first_wrong, leaf_fault, greatest, greatest_key, member, ended, checked, walk}
+use Rattle.leaves.proofs.ElementLaws.{wrong_from, greatest_reduced}
 
 -- A leaf's fault stands whatever comes after the leaf.
 pub checked_err : {X Y : Type 0} (leaf : ℕ) (f : Option ℕ) (x : X) {e : Fault} (r : Result Y Fault) → checked leaf f (Ok x) ≡ Err e → checked leaf f r ≡ Err e
@@ -21,25 +21,22 @@ pub checked_ok : {X Y : Type 0} (leaf : ℕ) (f : Option ℕ) (x : X) {z : X} (r
 checked_ok leaf None x r h = (refl, cc)
 checked_ok leaf (Some s) x r h = (cc, cc)
 
-module _ (o : WordKind) (m : List ℕ) (bound : Option (ℕ × ℕ)) (alone : Bool) (k : ℕ) {count form : ℕ} {stands : Bool} {es : List Element} (counted : count ≡ count_of m k) (formed : form ≡ form_of m k)
-    (fine : stands ≡ (leb count 16 && eqb form 0 && (alone || ltb 0 count))) (is : stands ≡ true) (read : es ≡ elements m k count) where
-  fault_is : leaf_fault o m bound alone k ≡ first_wrong o bound [] 0 es
-  fault_is =
-      let h : (leb (count_of m k) 16 && eqb (form_of m k) 0 && (alone || ltb 0 (count_of m k))) ≡ true = rw (← counted, ← formed) (sym fine ∙ is) in
-      cond-true _ _ _ h ∙ bad_wrong o m bound k (count_of m k) ∙ ap (first_wrong o bound [] 0) (sym (rw counted at read))
-
-  pub check_err : {e : Fault} → Err e ≡ checked {X = Unit {0}} k (first_wrong o bound [] 0 es) (Ok tt) → Err e ≡ checked k (leaf_fault o m bound alone k) (Ok (greatest o m k (count_of m k)))
-  check_err each = sym (checked_err k (leaf_fault o m bound alone k) tt (Ok (greatest o m k (count_of m k))) (ap (λ f. checked {X = Unit {0}} k f (Ok tt)) fault_is ∙ sym each))
-
-  pub check_ok : {top : Option (ℕ × ℕ)} → Ok tt ≡ checked {X = Unit {0}} k (first_wrong o bound [] 0 es) (Ok tt) → top ≡ greatest_key o es → Ok top ≡ checked k (leaf_fault o m bound alone k) (Ok (greatest o m k (count_of m k)))
-  check_ok each top =
-      let at : es ≡ elements m k (count_of m k) = rw counted at read in
-      ap Ok (top ∙ ap (greatest_key o) at ∙ sym (greatest_reduced o m k (count_of m k)))
-      ∙ sym (checked_ok k (leaf_fault o m bound alone k) tt (Ok (greatest o m k (count_of m k))) (ap (λ f. checked {X = Unit {0}} k f (Ok tt)) fault_is ∙ sym each)).0
+-- What is said of a leaf's elements, said of the leaf.
+pub check_is : (o : WordKind) (m : List ℕ) (bound : Option (ℕ × ℕ)) (alone : Bool) (k : ℕ) {count form : ℕ} {stands : Bool} {es : List Element} → count ≡ count_of m k → form ≡ form_of m k
+    → stands ≡ (leb count 16 && eqb form 0 && (alone || ltb 0 count)) → stands ≡ true → es ≡ elements m k count
+    → checked k (first_wrong o bound [] 0 es) (Ok (greatest_key o es)) ≡ checked k (leaf_fault o m bound alone k) (Ok (greatest o m k (count_of m k)))
+check_is o m bound alone k counted formed fine is read =
+    let h : (leb (count_of m k) 16 && eqb (form_of m k) 0 && (alone || ltb 0 (count_of m k))) ≡ true = rw (← counted, ← formed) (sym fine ∙ is) in
+    let all = rw counted at read in
+    rw (cond-true _ (first_bad o m bound k 0 (count_of m k)) (Some 0) h, wrong_from o m bound k 0 (count_of m k), all, greatest_reduced o m k (count_of m k))
 
 member_is : (x : ℕ) (ks : List ℕ) → list_any (λ y. eqb y x) ks ≡ member x ks
 member_is x [] = refl
 member_is x (k ∷ ks) = let ih = member_is x ks in grind (arith, nat_tests)
+
+pub walk_ended : (o : WordKind) (m : List ℕ) (n : ℕ) (used : List ℕ) (bound : Option (ℕ × ℕ)) (from link : ℕ) → link ≡ 0 → walk o m n used bound from link ≡ ended from used
+walk_ended o m zero used bound from link z = cond-true _ _ _ (eq-eqb link 0 z)
+walk_ended o m (suc n) used bound from link z = cond-true _ _ _ (eq-eqb link 0 z)
 
 -- One turn of the walk, from what is known of it: `rest` is what remains of the answer `all`.
 module _ (o : WordKind) (m : List ℕ) (leaves : ℕ) (used : List ℕ) (bound : Option (ℕ × ℕ)) (from link : ℕ) {all : Result (List ℕ) Fault}

@@ -1,6 +1,5 @@
 -- Building a run from another.
-use Rattle.std.proofs.Common.{◌≡◌, ℕ, suc, ◌+◌, ◌<◌, ◌≤◌, Bool, true, false, cond, List, [], ◌∷◌, ◌++◌, length, get_or, take, drop, sym, refl, ap, ◌∙◌, append_assoc, length-append, length-take, length-drop, arith}
-use Rattle.std.proofs.lemmas.List.{take_more}
+use Rattle.std.proofs.Common.{◌≡◌, ℕ, suc, ◌+◌, ◌≤◌, true, false, cond, List, [], ◌∷◌, ◌++◌, length, take, drop, sym, refl, ap, ◌∙◌, append_assoc, length-append, length-take, length-drop, arith}
 use Rattle.std.proofs.lemmas.List.Sums.{prefix_len-le-length}
 use Rattle.std.proofs.lemmas.Bool.Decides.{nat_tests}
 use Rattle.fixed_vec.specs.Items.{joined}
@@ -8,26 +7,11 @@ use Rattle.std.specs.List.{prefix_len}
 use Rattle.keys.specs.InWords.{WordKind}
 use Rattle.leaves.specs.declared.leaf.Pair.{Pair}
 use Rattle.leaves.specs.declared.leaf.Element.{Element}
-use Rattle.leaves.specs.Pairs.{equal, insert, delete, applied, folded, past_own}
-
--- one pair more before the end
-pub delete_push : (w : ℕ × ℕ) (ps : List Pair) (p : Pair) → delete w (ps ++ p ∷ []) ≡ cond (equal p.key w) (delete w ps) (delete w ps ++ p ∷ [])
-delete_push w [] p = grind arith
-delete_push w (q ∷ ps) p = let ih = delete_push w ps p in grind arith
+use Rattle.leaves.specs.Pairs.{insert, delete, applied, folded, past_own}
 
 pub length_delete : (w : ℕ × ℕ) (ps : List Pair) → length (delete w ps) ≤ length ps
 length_delete w [] = omega arith
 length_delete w (p ∷ ps) = let ih = length_delete w ps in grind arith
-
-pub insert_split : (o : WordKind) (q : Pair) (ps : List Pair)
-    → insert o q ps ≡ take (prefix_len (λ p. o.before p.key q.key) ps) ps ++ q ∷ past_own o q.key (drop (prefix_len (λ p. o.before p.key q.key) ps) ps)
-insert_split o q [] = refl
-insert_split o q (p ∷ ps) = by (o.before p.key q.key) (insert_split o q ps)
-  where
-    by : (b : Bool) → insert o q ps ≡ take (prefix_len (λ p. o.before p.key q.key) ps) ps ++ q ∷ past_own o q.key (drop (prefix_len (λ p. o.before p.key q.key) ps) ps)
-        → cond b (p ∷ insert o q ps) (q ∷ cond (o.before q.key p.key) (p ∷ ps) ps) ≡ take (cond b (1 + prefix_len (λ p. o.before p.key q.key) ps) 0) (p ∷ ps) ++ q ∷ past_own o q.key (drop (cond b (1 + prefix_len (λ p. o.before p.key q.key) ps) 0) (p ∷ ps))
-    by true ih = let e : 1 + prefix_len (λ p. o.before p.key q.key) ps ≡ suc (prefix_len (λ p. o.before p.key q.key) ps) = omega arith in rw e (ap (λ xs. p ∷ xs) ih)
-    by false ih = refl
 
 pub length_past : (o : WordKind) (w : ℕ × ℕ) (ps : List Pair) → length (past_own o w ps) ≤ length ps
 length_past o w [] = omega arith
@@ -44,23 +28,32 @@ pub length_folded : (o : WordKind) (ps : List Pair) (es : List Element) → leng
 length_folded o ps [] = omega arith
 length_folded o ps (e ∷ es) = let a = length_applied o e ps in let ih = length_folded o (applied o e ps) es in omega arith
 
-pub delete_more : (w : ℕ × ℕ) (ps : List Pair) (i : ℕ) (d : Pair) → i < length ps → delete w (take (i + 1) ps) ≡ cond (equal (get_or ps i d).key w) (delete w (take i ps)) (delete w (take i ps) ++ get_or ps i d ∷ [])
-delete_more w ps i d h = ap (delete w) (take_more ps i d h) ∙ delete_push w (take i ps) (get_or ps i d)
-
 -- where there is room, what is joined is all of it
 pub joined_all : {T : Type 0} (n : ℕ) (xs ys : List T) → length xs + length ys ≤ n → joined n xs ys ≡ xs ++ ys
 joined_all n xs ys h = grind (arith, nat_tests)
 
-pub insert_joined : (o : WordKind) (q : Pair) (ps : List Pair) → length ps ≤ 16
-    → joined 17 (joined 17 (joined 17 [] (take (prefix_len (λ p. o.before p.key q.key) ps) ps)) (q ∷ [])) (past_own o q.key (drop (prefix_len (λ p. o.before p.key q.key) ps) ps)) ≡ insert o q ps
-insert_joined o q ps h =
-    let n = prefix_len (λ p. o.before p.key q.key) ps in
-    let few = prefix_len-le-length (λ (p : Pair). o.before p.key q.key) ps in
-    let front = length-take n ps in
-    let back = length-drop n ps in
-    let past = length_past o q.key (drop n ps) in
-    let one = length-append (take n ps) (q ∷ []) in
-    let first = joined_all 17 [] (take n ps) (omega arith) in
-    let second = joined_all 17 (take n ps) (q ∷ []) (omega arith) in
-    let third = joined_all 17 (take n ps ++ q ∷ []) (past_own o q.key (drop n ps)) (omega arith) in
-    rw (first, second, third) (append_assoc (take n ps) (q ∷ []) (past_own o q.key (drop n ps)) ∙ sym (insert_split o q ps))
+module _ (o : WordKind) (q : Pair) where
+  -- how many pairs stand before the place of a new one
+  abbrev smaller : List Pair → ℕ
+  smaller ps = prefix_len (λ p. o.before p.key q.key) ps
+
+  insert_split : (ps : List Pair) → insert o q ps ≡ take (smaller ps) ps ++ q ∷ past_own o q.key (drop (smaller ps) ps)
+  insert_split [] = refl
+  insert_split (p ∷ ps) =
+      let e : 1 + smaller ps ≡ suc (smaller ps) = omega arith in
+      let more : p ∷ insert o q ps ≡ take (1 + smaller ps) (p ∷ ps) ++ q ∷ past_own o q.key (drop (1 + smaller ps) (p ∷ ps)) = rw e (ap (λ xs. p ∷ xs) (insert_split ps)) in
+      elim (o.before p.key q.key) as (λ b. cond b (p ∷ insert o q ps) (q ∷ past_own o q.key (p ∷ ps)) ≡ take (cond b (1 + smaller ps) 0) (p ∷ ps) ++ q ∷ past_own o q.key (drop (cond b (1 + smaller ps) 0) (p ∷ ps)))
+      [ true ↦ more | false ↦ refl ]
+
+  pub insert_joined : (ps : List Pair) → length ps ≤ 16 → joined 17 (joined 17 (joined 17 [] (take (smaller ps) ps)) (q ∷ [])) (past_own o q.key (drop (smaller ps) ps)) ≡ insert o q ps
+  insert_joined ps h =
+      let n = smaller ps in
+      let few = prefix_len-le-length (λ (p : Pair). o.before p.key q.key) ps in
+      let front = length-take n ps in
+      let back = length-drop n ps in
+      let past = length_past o q.key (drop n ps) in
+      let one = length-append (take n ps) (q ∷ []) in
+      let first = joined_all 17 [] (take n ps) (omega arith) in
+      let second = joined_all 17 (take n ps) (q ∷ []) (omega arith) in
+      let third = joined_all 17 (take n ps ++ q ∷ []) (past_own o q.key (drop n ps)) (omega arith) in
+      rw (first, second, third) (append_assoc (take n ps) (q ∷ []) (past_own o q.key (drop n ps)) ∙ sym (insert_split ps))

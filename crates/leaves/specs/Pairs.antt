@@ -1,6 +1,6 @@
 -- Pairs of key and reading, ascending by key, and the pairs that a leaf's elements come to; a key is its two words.
-use Rattle.std.specs.Prelude.{ℕ, zero, suc, Bool, cond, ◌&&◌, List, [], ◌∷◌, reverse, Some, None, Option, option_and_then, ◌==◌}
-use Rattle.std.specs.List.{find, fold}
+use Rattle.std.specs.Prelude.{ℕ, zero, suc, Bool, cond, not, ◌&&◌, List, [], ◌∷◌, reverse, Some, None, Option, option_and_then, ◌==◌}
+use Rattle.std.specs.List.{filter, find, fold}
 use Rattle.keys.specs.InWords.{WordKind}
 use Rattle.leaves.specs.declared.leaf.Element.{Element}
 use Rattle.leaves.specs.declared.leaf.Pair.{Pair}
@@ -19,8 +19,7 @@ insert o q (p ∷ ps) =
     cond (o.before p.key q.key) (p ∷ insert o q ps) (q ∷ cond (o.before q.key p.key) (p ∷ ps) ps)
 
 abbrev pub delete : ℕ × ℕ → List Pair → List Pair
-delete w [] = []
-delete w (p ∷ ps) = cond (equal p.key w) (delete w ps) (p ∷ delete w ps)
+delete w ps = filter (λ p. not (equal p.key w)) ps
 
 -- What an element says of its key.
 abbrev pub held : Element → Option ℕ

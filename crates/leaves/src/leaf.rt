@@ -20,7 +20,7 @@ pub struct Pair {
 }
 
 // The oldest elements of a leaf, in the order in which they were written.
-pub type Elements = FixedVec<Element, 16>;
+pub(crate) type Elements = FixedVec<Element, 16>;
 
 // Pairs in the order of their keys: those of a leaf, and one more.
 pub type Run = FixedVec<Pair, 17>;

@@ -52,22 +52,6 @@ fn bad_leaf(leaf: usize, slot: usize) -> Fault
     }
 }
 
-// The fault of the first bad element, if one of them is bad.
-fn check_each<K: Key>(
-    leaf: usize,
-    elements: &[Element],
-    bound: Option<(u64, u64)>,
-) -> Result<(), Fault>
-    ensures { result ≡ checked leaf (first_wrong (in_words K.Key.kind) bound [] 0 elements.now) (Ok tt) }
-{
-    for (slot, e) in elements.iter().enumerate() {
-        if !good::<K>(&elements[..slot], *e, bound) {
-            return Err(bad_leaf(leaf, slot + 1));
-        }
-    }
-    Ok(())
-}
-
 // The greatest key of the elements, if there are any.
 pub(crate) fn greatest<K: Key>(elements: &[Element]) -> Option<(u64, u64)>
     ensures { result ≡ greatest_key (in_words K.Key.kind) elements.now }
@@ -76,6 +60,22 @@ pub(crate) fn greatest<K: Key>(elements: &[Element]) -> Option<(u64, u64)>
         .iter()
         .map(|e| e.key)
         .reduce(|a, b| greater::<K>(a, b))
+}
+
+// The greatest key of the elements, or the fault of the first bad one.
+fn check_elements<K: Key>(
+    leaf: usize,
+    elements: &[Element],
+    bound: Option<(u64, u64)>,
+) -> Result<Option<(u64, u64)>, Fault>
+    ensures { result ≡ checked leaf (first_wrong (in_words K.Key.kind) bound [] 0 elements.now) (Ok (greatest_key (in_words K.Key.kind) elements.now)) }
+{
+    for (slot, e) in elements.iter().enumerate() {
+        if !good::<K>(&elements[..slot], *e, bound) {
+            return Err(bad_leaf(leaf, slot + 1));
+        }
+    }
+    Ok(greatest::<K>(elements))
 }
 
 // Whether a leaf can be one of a chain, by what it counts, its form, and whether it is the only one.
@@ -103,6 +103,5 @@ pub(crate) fn check<K: Key, M: Memory>(
         return Err(bad_leaf(leaf, 0));
     }
     let elements = elements(memory, leaf, count as usize);
-    check_each::<K>(leaf, elements.as_slice(), bound)?;
-    Ok(greatest::<K>(elements.as_slice()))
+    check_elements::<K>(leaf, elements.as_slice(), bound)
 }

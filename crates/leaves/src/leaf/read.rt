@@ -16,7 +16,7 @@ pub(crate) fn word_at<M: Memory>(memory: &mut M, at: usize) -> u64
     memory.read(at).unwrap_or(0)
 }
 
-pub(crate) fn element<M: Memory>(memory: &mut M, leaf: usize, slot: usize) -> Element
+fn element<M: Memory>(memory: &mut M, leaf: usize, slot: usize) -> Element
     requires { (Within (M.Memory.meaning memory.old).live leaf) × (slot < 16) }
     ensures same { M.Memory.meaning memory.new ≡ M.Memory.meaning memory.old }
     ensures value { result ≡ element_at (M.Memory.meaning memory.old).live leaf slot }

@@ -1,5 +1,5 @@
 use Rattle.keys.specs.InWords.{in_words}
-use Rattle.std.proofs.Common.{eqb, [], ◌∷◌, length, Err, sym, ap, ◌∙◌, arith}
+use Rattle.std.proofs.Common.{eqb, [], ◌∷◌, length, sym, ap, ◌∙◌, arith}
 use Rattle.std.specs.List.{list_any}
 use Rattle.std.proofs.lemmas.List.{length_push}
 use Rattle.std.proofs.lemmas.Result.{err_from_is_err_and}
@@ -7,7 +7,8 @@ use Rattle.leaves.specs.Layout.{next_of}
 use Rattle.leaves.specs.Opening.{leaves_of}
 use Rattle.leaves.proofs.Kept.{live_same}
 use Rattle.leaves.proofs.RunLaws.{joined_all}
-use Rattle.leaves.proofs.OpeningLaws.{unlinked_here, ended_here, full_here, far_here, twice_here, fault_here, on_here}
+use Rattle.std.proofs.lemmas.Bool.Decides.{nat_tests}
+use Rattle.leaves.proofs.OpeningLaws.{walk_ended, full_here, far_here, twice_here, fault_here, on_here}
 use Rattle.leaves.proofs.open.walk.walk.Goals as goal
 use Rattle.leaves.proofs.open.walk.walk.Goals.{then-len-leaves-via-then-len-leaves, then-len-leaves-via-else-len-leaves+then-leaf-leaves, then-len-leaves-via-else-len-leaves+else-leaf-leaves+then-contains}
 
@@ -45,11 +46,7 @@ loop-link-preserved g c =
     )
 
 pub returns-then-from-eq0-clause-value : goal.returns-then-from-eq0-clause-value
-returns-then-from-eq0-clause-value g c =
-    let l = c.loop-link in
-    ap Err c.into.ensures ∙ unlinked_here (in_words g.K.Key.kind) (g.M.Memory.meaning c.args.memory.now).live c.args.leaves (leaves_of l.chain) l.bound l.from l.link l.invariant.2 c.loop-link-test.false c.if-from-eq0.true
+returns-then-from-eq0-clause-value g c = grind (arith, nat_tests, walk_ended)
 
 pub returns-clause-value : goal.returns-clause-value
-returns-clause-value g c =
-    let l = c.loop-link in
-    ended_here (in_words g.K.Key.kind) (g.M.Memory.meaning c.args.memory.now).live c.args.leaves (leaves_of l.chain) l.bound l.from l.link l.invariant.2 c.loop-link-test.false c.if-from-eq0.false
+returns-clause-value g c = grind (arith, nat_tests, walk_ended)

@@ -2,7 +2,7 @@ use Rattle.keys.specs.InWords.{in_words}
 use Rattle.std.proofs.Common.{◌≡◌, [], take, drop}
 use Rattle.leaves.specs.Pairs.{folded}
 use Rattle.leaves.specs.Opening.{first_wrong}
-use Rattle.leaves.proofs.leaf.check.check_each.Given as goal
+use Rattle.leaves.proofs.leaf.check.check_elements.Given as goal
 
 abbrev pub invariant-loop-slot : goal.invariant-loop-slot
 invariant-loop-slot g l =
