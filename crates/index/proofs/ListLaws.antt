@@ -7,7 +7,7 @@ use Rattle.index.specs.Search.{concat, offset, Full}
 use Rattle.index.specs.declared.table.Place.{Place}
 use Rattle.index.specs.Places.{position, group_of, place_after, place_before, within}
 use Rattle.index.specs.Meaning.{leaf_at, split, splits, with_group}
-use Rattle.index.proofs.PlaceLaws.{Within, within_parts, within_of, in_its_group, told_after, none_after, told_before, none_before}
+use Rattle.index.proofs.PlaceLaws.{Within, within_parts, within_of, in_its_group, told_after, none_after, told_before}
 use Rattle.index.proofs.BuildLaws.{concat_singles}
 use Rattle.index.proofs.ChangeLaws.{length_parted, length_renamed}
 use Rattle.std.proofs.lemmas.Bool.{cond-true, cond-false, cond_both, and_parts, cases_lt, ltb-false, ltb-true, le-ltb, lt-ltb}
@@ -33,9 +33,6 @@ module _ (gs : List (List Entry)) (g : ℕ) (out : List Entry) {all : List Entry
 
   pub list_turn : (part : List Entry) {more : List Entry} → g < length gs → part ≡ get_or gs g [] → more ≡ out ++ part → more ++ concat (drop (g + 1) gs) ≡ all
   list_turn part h is push = rw (push, is) (append_assoc out (get_or gs g []) _ ∙ here h)
-
-  pub list_end : length gs ≤ g → out ≡ all
-  list_end h = sym (append-nil out) ∙ ap (λ xs. out ++ concat xs) (sym (drop_all g gs h)) ∙ rest
 
 parted_front : (xs ys : List Entry) (s left : ℕ) (b : ℕ × ℕ) (right : ℕ) → s < length xs → parted xs s left b right ++ ys ≡ parted (xs ++ ys) s left b right
 parted_front [] ys s left b right h = absurd (omega arith)
@@ -82,9 +79,6 @@ length_split gs g s left b right h k = ap length (concat_parted gs g s left b ri
 module _ (gs : List (List Entry)) (p : Place) where
   pub splits_parts : splits gs p ≡ true → Within gs p × (length (concat gs) < 64)
   splits_parts t = let h = and_parts (within gs p) _ t in (within_parts gs p h.0, ltb-true _ _ h.1)
-
-  pub splits_within : splits gs p ≡ true → within gs p ≡ true
-  splits_within t = (and_parts (within gs p) _ t).0
 
   pub no_split : 64 ≤ length (concat gs) → false ≡ splits gs p
   no_split h = and_false (within gs p) _ (le-ltb (length (concat gs)) 64 h)
@@ -161,9 +155,6 @@ module _ (gs : List (List Entry)) (p : Place) (t : within gs p ≡ true) where
       let w = within_parts gs p t in
       let h : g < length gs = omega (arith, w.0) in
       told_before gs p w _ (h, omega arith) (omega (arith, offset_more gs g h, ap (offset gs) e))
-
-  pub no_last : p.group ≡ 0 → p.slot ≡ 0 → None ≡ place_before gs p
-  no_last e z = none_before gs p (within_parts gs p t) (omega (arith, ap (offset gs) e ∙ offset_none gs))
 
 without_front : (xs ys : List Entry) (s : ℕ) → s < length xs → without xs s ++ ys ≡ without (xs ++ ys) s
 without_front [] ys s h = absurd (omega arith)

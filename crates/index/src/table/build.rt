@@ -1,5 +1,5 @@
 // Building the index anew: each node from the list of leaves and bounds.
-ghost use Rattle.std.specs.Prelude.{◌≡◌, ◌<◌, ◌≤◌, [], map, length, slice_index_or};
+ghost use Rattle.std.specs.Prelude.{◌≡◌, ◌*◌, ◌<◌, ◌≤◌, [], map, length, take, drop, slice_index_or};
 ghost use Rattle.index.specs.Nodes.{items, bounds};
 ghost use Rattle.index.specs.Search.{last};
 ghost use Rattle.index.specs.Shape.{numbered, rows, singles, table as table_node, lowest as lowest_of};
@@ -24,6 +24,13 @@ fn children(first: usize, entries: &[Entry]) -> Node
         children.push(child).unwrap();
     }
     Node { entries: children }
+}
+
+// Row q of nine entries.
+fn row(entries: &[Entry], q: usize) -> &[Entry]
+    ensures { result.now ≡ take 9 (drop (9 * q) entries.now) }
+{
+    entries.chunks(9).nth(q).unwrap_or(&[])
 }
 
 // The root over rows of nine entries.
@@ -79,9 +86,7 @@ fn made(entries: &[Entry], i: usize) -> Node
     if i == 0 {
         return root(entries);
     }
-    let from = n.min(9 * i - 9);
-    let end = n.min(9 * i);
-    children(9 * i + 1, &entries[from..end])
+    children(9 * i + 1, row(entries, i - 1))
 }
 
 // One leaf in each node of the lowest level.
