@@ -34,37 +34,32 @@ module _ (gs : List (List Entry)) (g : ℕ) (out : List Entry) {all : List Entry
   pub list_turn : (part : List Entry) {more : List Entry} → g < length gs → part ≡ get_or gs g [] → more ≡ out ++ part → more ++ concat (drop (g + 1) gs) ≡ all
   list_turn part h is push = rw (push, is) (append_assoc out (get_or gs g []) _ ∙ here h)
 
-parted_front : (xs ys : List Entry) (s left : ℕ) (b : ℕ × ℕ) (right : ℕ) → s < length xs → parted xs s left b right ++ ys ≡ parted (xs ++ ys) s left b right
-parted_front [] ys s left b right h = absurd (omega arith)
-parted_front (x ∷ xs) ys zero left b right h = refl
-parted_front (x ∷ xs) ys (suc s) left b right h = ap (λ es. x ∷ es) (parted_front xs ys s left b right (omega arith))
+-- An edit at one place of a list, in its group and in the list of all leaves.
+module _ (f : List Entry → ℕ → List Entry) (step : (e : Entry) (es : List Entry) (s : ℕ) → f (e ∷ es) (suc s) ≡ e ∷ f es s) (base : (e : Entry) (xs ys : List Entry) → f (e ∷ xs) 0 ++ ys ≡ f (e ∷ (xs ++ ys)) 0) where
+  edit_front : (xs ys : List Entry) (s : ℕ) → s < length xs → f xs s ++ ys ≡ f (xs ++ ys) s
+  edit_front [] ys s h = absurd (omega arith)
+  edit_front (x ∷ xs) ys zero h = base x xs ys
+  edit_front (x ∷ xs) ys (suc s) h = ap (λ es. es ++ ys) (step x xs s) ∙ ap (λ es. x ∷ es) (edit_front xs ys s (omega arith)) ∙ sym (step x (xs ++ ys) s)
 
-parted_back : (xs ys : List Entry) (s left : ℕ) (b : ℕ × ℕ) (right : ℕ) → xs ++ parted ys s left b right ≡ parted (xs ++ ys) (length xs + s) left b right
-parted_back [] ys s left b right = let z : 0 + s ≡ s = omega arith in rw z
-parted_back (x ∷ xs) ys s left b right = let z : length (x ∷ xs) + s ≡ suc (length xs + s) = omega arith in rw z (ap (λ es. x ∷ es) (parted_back xs ys s left b right))
+  edit_back : (xs ys : List Entry) (s : ℕ) → xs ++ f ys s ≡ f (xs ++ ys) (length xs + s)
+  edit_back [] ys s = let z : 0 + s ≡ s = omega arith in rw z
+  edit_back (x ∷ xs) ys s = let z : length (x ∷ xs) + s ≡ suc (length xs + s) = omega arith in rw z (ap (λ es. x ∷ es) (edit_back xs ys s) ∙ sym (step x (xs ++ ys) (length xs + s)))
+
+  concat_edit : (gs : List (List Entry)) (g s : ℕ) → g < length gs → s < length (get_or gs g []) → concat (set gs g (f (get_or gs g []) s)) ≡ f (concat gs) (offset gs g + s)
+  concat_edit [] g s h k = absurd (omega arith)
+  concat_edit (x ∷ gs) zero s h k = let z : 0 + s ≡ s = omega arith in rw z (edit_front x (concat gs) s k)
+  concat_edit (x ∷ gs) (suc g) s h k =
+      let z : length x + offset gs g + s ≡ length x + (offset gs g + s) = omega arith in
+      rw z (ap (λ es. x ++ es) (concat_edit gs g s (omega arith) k) ∙ edit_back x (concat gs) (offset gs g + s))
 
 pub concat_parted : (gs : List (List Entry)) (g s left : ℕ) (b : ℕ × ℕ) (right : ℕ) → g < length gs → s < length (get_or gs g []) → concat (set gs g (parted (get_or gs g []) s left b right)) ≡ parted (concat gs) (offset gs g + s) left b right
-concat_parted [] g s left b right h k = absurd (omega arith)
-concat_parted (x ∷ gs) zero s left b right h k = let z : 0 + s ≡ s = omega arith in rw z (parted_front x (concat gs) s left b right k)
-concat_parted (x ∷ gs) (suc g) s left b right h k =
-    let z : length x + offset gs g + s ≡ length x + (offset gs g + s) = omega arith in
-    rw z (ap (λ es. x ++ es) (concat_parted gs g s left b right (omega arith) k) ∙ parted_back x (concat gs) (offset gs g + s) left b right)
-
-renamed_front : (xs ys : List Entry) (s leaf : ℕ) → s < length xs → renamed xs s leaf ++ ys ≡ renamed (xs ++ ys) s leaf
-renamed_front [] ys s leaf h = absurd (omega arith)
-renamed_front (x ∷ xs) ys zero leaf h = refl
-renamed_front (x ∷ xs) ys (suc s) leaf h = ap (λ es. x ∷ es) (renamed_front xs ys s leaf (omega arith))
-
-renamed_back : (xs ys : List Entry) (s leaf : ℕ) → xs ++ renamed ys s leaf ≡ renamed (xs ++ ys) (length xs + s) leaf
-renamed_back [] ys s leaf = let z : 0 + s ≡ s = omega arith in rw z
-renamed_back (x ∷ xs) ys s leaf = let z : length (x ∷ xs) + s ≡ suc (length xs + s) = omega arith in rw z (ap (λ es. x ∷ es) (renamed_back xs ys s leaf))
+concat_parted gs g s left b right = concat_edit (λ es n. parted es n left b right) (λ e es n. refl) (λ e xs ys. refl) gs g s
 
 pub concat_renamed : (gs : List (List Entry)) (g s leaf : ℕ) → g < length gs → s < length (get_or gs g []) → concat (set gs g (renamed (get_or gs g []) s leaf)) ≡ renamed (concat gs) (offset gs g + s) leaf
-concat_renamed [] g s leaf h k = absurd (omega arith)
-concat_renamed (x ∷ gs) zero s leaf h k = let z : 0 + s ≡ s = omega arith in rw z (renamed_front x (concat gs) s leaf k)
-concat_renamed (x ∷ gs) (suc g) s leaf h k =
-    let z : length x + offset gs g + s ≡ length x + (offset gs g + s) = omega arith in
-    rw z (ap (λ es. x ++ es) (concat_renamed gs g s leaf (omega arith) k) ∙ renamed_back x (concat gs) (offset gs g + s) leaf)
+concat_renamed gs g s leaf = concat_edit (λ es n. renamed es n leaf) (λ e es n. refl) (λ e xs ys. refl) gs g s
+
+concat_without : (gs : List (List Entry)) (g s : ℕ) → g < length gs → s < length (get_or gs g []) → concat (set gs g (without (get_or gs g []) s)) ≡ without (concat gs) (offset gs g + s)
+concat_without = concat_edit without (λ e es n. refl) (λ e xs ys. refl)
 
 -- A place is within the list of all leaves.
 pub offset_within : {X : Type 0} (gs : List (List X)) (g s : ℕ) → g < length gs → s < length (get_or gs g []) → offset gs g + s < length (concat gs)
@@ -155,22 +150,6 @@ module _ (gs : List (List Entry)) (p : Place) (t : within gs p ≡ true) where
       let w = within_parts gs p t in
       let h : g < length gs = omega (arith, w.0) in
       told_before gs p w _ (h, omega arith) (omega (arith, offset_more gs g h, ap (offset gs) e))
-
-without_front : (xs ys : List Entry) (s : ℕ) → s < length xs → without xs s ++ ys ≡ without (xs ++ ys) s
-without_front [] ys s h = absurd (omega arith)
-without_front (x ∷ xs) ys zero h = refl
-without_front (x ∷ xs) ys (suc s) h = ap (λ es. x ∷ es) (without_front xs ys s (omega arith))
-
-without_back : (xs ys : List Entry) (s : ℕ) → xs ++ without ys s ≡ without (xs ++ ys) (length xs + s)
-without_back [] ys s = let z : 0 + s ≡ s = omega arith in rw z
-without_back (x ∷ xs) ys s = let z : length (x ∷ xs) + s ≡ suc (length xs + s) = omega arith in rw z (ap (λ es. x ∷ es) (without_back xs ys s))
-
-concat_without : (gs : List (List Entry)) (g s : ℕ) → g < length gs → s < length (get_or gs g []) → concat (set gs g (without (get_or gs g []) s)) ≡ without (concat gs) (offset gs g + s)
-concat_without [] g s h k = absurd (omega arith)
-concat_without (x ∷ gs) zero s h k = let z : 0 + s ≡ s = omega arith in rw z (without_front x (concat gs) s k)
-concat_without (x ∷ gs) (suc g) s h k =
-    let z : length x + offset gs g + s ≡ length x + (offset gs g + s) = omega arith in
-    rw z (ap (λ es. x ++ es) (concat_without gs g s (omega arith) k) ∙ without_back x (concat gs) (offset gs g + s))
 
 joined_is : (es : List Entry) (s leaf : ℕ) → without (renamed es (s + 1) leaf) s ≡ joined es s leaf
 joined_is [] s leaf = refl
