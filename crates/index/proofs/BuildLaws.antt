@@ -3,7 +3,7 @@ use Rattle.std.proofs.Common.{◌≡◌, ℕ, zero, suc, ◌+◌, ◌-◌, ◌*�
 use lib.ListN.{length-map}
 use mathlib.Core.List.{map-append}
 use Rattle.std.proofs.lemmas.Bool.{cond-true, cond-false, cond_both, le-ltb, lt-ltb, le-leb, lt-leb, eq-eqb, ne_eqb, cases_lt, and_parts, and_from, eqb-true, cases_eq, false≢true}
-use Rattle.std.proofs.lemmas.List.{drop_all, drop_at, take_at, map_more, nil_from_length, get_or-map, get_or_past, take-map, drop-map}
+use Rattle.std.proofs.lemmas.List.{drop_all, drop_at, take_at, map_more, nil_from_length, get_or-map, take-map, drop-map}
 use denote.Param.Members.{Mut}
 use Rattle.std.specs.Fn.{Called}
 use Rattle.std.specs.Array.{IsFromFnResultFrom}
@@ -35,7 +35,7 @@ children_turn n es i d {out} {more} h k is long push =
     (added ∙ ap (λ xs. xs ++ (entry (n + i) b ∷ [])) is ∙ sym same, omega (arith, simp length-append at (ap length added)))
 
 -- Rows of nine.
-pub rows_next : {X : Type 0} (k : ℕ) (xs row rest : List X) → xs ≡ row ++ rest → length row ≡ min 9 (length xs) → 0 < length xs → rows (suc k) xs ≡ row ∷ rows k rest
+rows_next : {X : Type 0} (k : ℕ) (xs row rest : List X) → xs ≡ row ++ rest → length row ≡ min 9 (length xs) → 0 < length xs → rows (suc k) xs ≡ row ∷ rows k rest
 rows_next k [] row rest e n h = absurd (omega arith)
 rows_next k (x ∷ xs) row rest e n h =
     let long : length (x ∷ xs) ≡ length row + length rest = ap length e ∙ length-append row rest in
@@ -106,9 +106,6 @@ bounds_part : (es : List Entry) (n m : ℕ) → bounds (take n (drop m es)) ≡ 
 bounds_part es n m = sym (take-map (λ (e : Entry). e.bound) n (drop m es)) ∙ ap (take n) (sym (drop-map (λ (e : Entry). e.bound) m es))
 
 module _ (es : List Entry) (i : ℕ) {low : ℕ} {p : List Entry} (is : low ≡ lowest (length es)) where
-  pub made_low : low ≤ i → p ≡ get_or (singles es) (i - low) [] → p ≡ table (singles es) i
-  made_low h e = e ∙ rw is (sym (cond-false _ _ _ (le-ltb i (lowest (length es)) (rw is at h)))) ∙ sym (table_singles es i)
-
   module _ (h : i < low) where
     above : p ≡ upper (length es) (bounds es) i → p ≡ table (singles es) i
     above e = e ∙ sym (cond-true _ _ _ (lt-ltb i (lowest (length es)) (rw is at h))) ∙ sym (table_singles es i)
@@ -152,14 +149,14 @@ table_low gs k =
     cond-false _ _ _ (le-ltb (lowest (length gs) + k) (lowest (length gs)) (omega arith)) ∙ ap (λ j. get_or gs j []) at
 
 module _ (gs : List (List Entry)) (nodes : List Node) (h : length gs ≤ 81) (long : length nodes ≡ 91) (each : (k : ℕ) → k < 91 → get_or (map items nodes) k [] ≡ table gs k) where
-  pub built_groups : groups (length gs) nodes ≡ gs
+  built_groups : groups (length gs) nodes ≡ gs
   built_groups =
       let low = lowest_le (length gs) in
       let n : length (groups (length gs) nodes) ≡ length gs = simp (length-take, length-drop, length-map) (omega arith) in
       ext_get_or [] (groups (length gs) nodes) gs n (λ k below.
       get_or-take (length gs) (drop (lowest (length gs)) (map items nodes)) k [] (omega arith) ∙ get_or-drop (lowest (length gs)) (map items nodes) k [] ∙ each (lowest (length gs) + k) (omega arith) ∙ table_low gs k)
 
-  pub built_sound : Sound (length gs) nodes
+  built_sound : Sound (length gs) nodes
   built_sound i k = same_of _ _ (each i k ∙ rw built_groups)
 
 singles_one : (es : List Entry) (g : ℕ) → g < length (singles es) → length (get_or (singles es) g []) ≡ 1

@@ -1,6 +1,6 @@
 -- One turn of listing all groups, and what changes of one group do to the list of all leaves.
-use Rattle.std.proofs.Common.{◌≡◌, ℕ, zero, suc, ◌+◌, ◌-◌, ◌<◌, ◌≤◌, Bool, true, false, ◌&&◌, ltb, List, [], ◌∷◌, ◌++◌, length, Some, None, Option, is_some, Bor, slice_get, get_or, drop, set, sym, refl, ap, ◌∙◌, ⊎_elim, append_assoc, append-nil, arith, length-append, length-set}
-use Rattle.std.proofs.lemmas.List.{drop_more, drop_all, get_or_append_left, get_or-append-add}
+use Rattle.std.proofs.Common.{◌≡◌, ℕ, zero, suc, ◌+◌, ◌-◌, ◌<◌, ◌≤◌, Bool, true, false, ◌&&◌, ltb, List, [], ◌∷◌, ◌++◌, length, Some, None, Option, is_some, Bor, slice_get, get_or, drop, set, sym, refl, ap, ◌∙◌, ⊎_elim, append_assoc, arith, length-append, length-set}
+use Rattle.std.proofs.lemmas.List.{drop_more, get_or_append_left, get_or-append-add}
 use Rattle.index.specs.declared.node.Entry.{Entry}
 use Rattle.index.specs.Nodes.{entry, parted, renamed, without, joined}
 use Rattle.index.specs.Search.{concat, offset, Full}
@@ -52,7 +52,7 @@ module _ (f : List Entry → ℕ → List Entry) (step : (e : Entry) (es : List 
       let z : length x + offset gs g + s ≡ length x + (offset gs g + s) = omega arith in
       rw z (ap (λ es. x ++ es) (concat_edit gs g s (omega arith) k) ∙ edit_back x (concat gs) (offset gs g + s))
 
-pub concat_parted : (gs : List (List Entry)) (g s left : ℕ) (b : ℕ × ℕ) (right : ℕ) → g < length gs → s < length (get_or gs g []) → concat (set gs g (parted (get_or gs g []) s left b right)) ≡ parted (concat gs) (offset gs g + s) left b right
+concat_parted : (gs : List (List Entry)) (g s left : ℕ) (b : ℕ × ℕ) (right : ℕ) → g < length gs → s < length (get_or gs g []) → concat (set gs g (parted (get_or gs g []) s left b right)) ≡ parted (concat gs) (offset gs g + s) left b right
 concat_parted gs g s left b right = concat_edit (λ es n. parted es n left b right) (λ e es n. refl) (λ e xs ys. refl) gs g s
 
 pub concat_renamed : (gs : List (List Entry)) (g s leaf : ℕ) → g < length gs → s < length (get_or gs g []) → concat (set gs g (renamed (get_or gs g []) s leaf)) ≡ renamed (concat gs) (offset gs g + s) leaf
@@ -92,7 +92,7 @@ pub split_list : (gs : List (List Entry)) (p : Place) (left : ℕ) (b : ℕ × �
 split_list gs p left b right e f = ap (λ es. concat (set gs p.group es)) (f ∙ ap (λ es. parted es p.slot left b right) e)
 
 -- The leaf at a place.
-pub offset_at : {X : Type 0} (gs : List (List X)) (g s : ℕ) (d : X) → g < length gs → s < length (get_or gs g []) → get_or (concat gs) (offset gs g + s) d ≡ get_or (get_or gs g []) s d
+offset_at : {X : Type 0} (gs : List (List X)) (g s : ℕ) (d : X) → g < length gs → s < length (get_or gs g []) → get_or (concat gs) (offset gs g + s) d ≡ get_or (get_or gs g []) s d
 offset_at [] g s d h k = absurd (omega arith)
 offset_at (x ∷ gs) zero s d h k = let z : 0 + s ≡ s = omega arith in rw z (get_or_append_left x (concat gs) d s k)
 offset_at (x ∷ gs) (suc g) s d h k =
@@ -100,20 +100,16 @@ offset_at (x ∷ gs) (suc g) s d h k =
     rw z (get_or-append-add x (concat gs) (offset gs g + s) d ∙ offset_at gs g s d (omega arith) k)
 
 -- One group on.
-pub offset_more : {X : Type 0} (gs : List (List X)) (g : ℕ) → g < length gs → offset gs (g + 1) ≡ offset gs g + length (get_or gs g [])
+offset_more : {X : Type 0} (gs : List (List X)) (g : ℕ) → g < length gs → offset gs (g + 1) ≡ offset gs g + length (get_or gs g [])
 offset_more [] g h = absurd (omega arith)
 offset_more (x ∷ []) zero h = omega arith
 offset_more (x ∷ y ∷ gs) zero h = omega arith
 offset_more (x ∷ gs) (suc g) h = let more = offset_more gs g (omega arith) in let z : suc g + 1 ≡ suc (g + 1) = omega arith in rw z (omega (arith, more))
 
-pub offset_all : {X : Type 0} (gs : List (List X)) (g : ℕ) → length gs ≤ g → offset gs g ≡ length (concat gs)
+offset_all : {X : Type 0} (gs : List (List X)) (g : ℕ) → length gs ≤ g → offset gs g ≡ length (concat gs)
 offset_all [] g h = refl
 offset_all (x ∷ gs) zero h = absurd (omega arith)
 offset_all (x ∷ gs) (suc g) h = let more = offset_all gs g (omega arith) in rw length-append (omega arith)
-
-pub offset_none : {X : Type 0} (gs : List (List X)) → offset gs 0 ≡ 0
-offset_none [] = refl
-offset_none (x ∷ gs) = refl
 
 pub item_is : {X : Type 0} (xs : List X) (i : ℕ) (r : Option (Bor X)) → is_some r ≡ ltb i (length xs) → IfSome r (λ x. x.now ≡ get_or xs i x.now) → option_copied r ≡ slice_get xs i
 item_is xs i None e s = sym (slice_get_past xs i (ltb-false _ _ (sym e)))
