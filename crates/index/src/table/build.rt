@@ -1,5 +1,5 @@
 // Building the index anew: each node from the list of leaves and bounds.
-ghost use Rattle.std.specs.Prelude.{◌≡◌, ◌*◌, ◌<◌, ◌≤◌, [], map, length, take, drop, slice_index_or};
+ghost use Rattle.std.specs.Prelude.{◌≡◌, ℕ, ◌*◌, ◌<◌, ◌≤◌, [], map, length, take, drop, slice_index_or};
 ghost use Rattle.index.specs.Nodes.{items, bounds};
 ghost use Rattle.index.specs.Search.{last};
 ghost use Rattle.index.specs.Shape.{numbered, rows, singles, table as table_node, lowest as lowest_of};
@@ -89,6 +89,15 @@ fn made(entries: &[Entry], i: usize) -> Node
     children(9 * i + 1, row(entries, i - 1))
 }
 
+// All nodes of an index of one leaf to a group.
+fn table(entries: &[Entry]) -> [Node; 91]
+    requires { length entries.now ≤ 81 }
+    ensures long { length result ≡ 91 }
+    ensures each { (i : ℕ) → i < 91 → slice_index_or (map items result) i [] ≡ table_node (singles entries.now) i }
+{
+    array::from_fn(|i| made(entries, i))
+}
+
 // One leaf in each node of the lowest level.
 pub(crate) fn built(entries: &[Entry]) -> Index
     requires { (1 ≤ length entries.now) × (length entries.now ≤ 64) }
@@ -97,6 +106,6 @@ pub(crate) fn built(entries: &[Entry]) -> Index
     Index {
         leaves: entries.len(),
         used: entries.len(),
-        nodes: array::from_fn(|i| made(entries, i)),
+        nodes: table(entries),
     }
 }
