@@ -5,7 +5,7 @@ use Rattle.index.specs.Nodes.{bounds}
 use Rattle.index.specs.Search.{search, front, Ascending}
 use Rattle.index.specs.Places.{position}
 use Rattle.index.specs.Meaning.{grouped, listed}
-use Rattle.index.proofs.ChangeLaws.{group_count, node_group}
+use Rattle.index.proofs.ChangeLaws.{node_group}
 use Rattle.index.proofs.LocateLaws.{leaves_some, by_groups, then_first, then_only}
 use Rattle.index.proofs.PlaceLaws.{within_of}
 use Rattle.index.proofs.table.Index.locate.Goals as goal
@@ -18,7 +18,7 @@ search-slot-requires g c =
     let nodes = c.groups.result.now in
     let node = get_or nodes c.group_of-group.result c.index-groups-group.result in
     let below = c.group_of-group.ensures.within in
-    let same = c.as_slice.ensures.value ∙ node_group nodes gs c.group_of-group.result c.index-groups-group.result node c.groups.ensures (omega (arith, below, group_count nodes gs c.groups.ensures)) refl in
+    let same = c.as_slice.ensures.value ∙ node_group nodes gs c.group_of-group.result c.index-groups-group.result node c.groups.ensures below refl in
     omega (arith, x.full c.group_of-group.result below, ap length same)
 
 pub returns : goal.returns
@@ -29,7 +29,7 @@ returns g c =
     let nodes = c.groups.result.now in
     let node = get_or nodes c.group_of-group.result c.index-groups-group.result in
     let below = c.group_of-group.ensures.within in
-    let same = c.as_slice.ensures.value ∙ node_group nodes gs c.group_of-group.result c.index-groups-group.result node c.groups.ensures (omega (arith, below, group_count nodes gs c.groups.ensures)) refl in
+    let same = c.as_slice.ensures.value ∙ node_group nodes gs c.group_of-group.result c.index-groups-group.result node c.groups.ensures below refl in
     let o = in_words g.K.Key.kind in
     let laws = in_words_ordered g.K.Key.kind g.met.K.Key.ordered g.met.K.Key.formed in
     let bs = bounds (listed x) in

@@ -53,7 +53,7 @@ remove-requires c =
     let m = still_within gs hs p q c.args.leaf w.0 w.1 w.2 is in
     let nodes = c.groups.result.now in
     let node = c.index-groups-place.result in
-    let same = node_group nodes hs p.group node node c.groups.ensures (omega (arith, m.0, group_count nodes hs c.groups.ensures)) c.index-groups-place.is in
+    let same = node_group nodes hs p.group node node c.groups.ensures m.0 c.index-groups-place.is in
     omega (arith, m.1, ap length same)
 
 pub rebuild-requires : goal.rebuild-requires
@@ -69,7 +69,7 @@ rebuild-requires c =
     let m = still_within gs hs p q c.args.leaf w.0 w.1 w.2 is in
     let nodes = c.groups.result.now in
     let node = c.index-groups-place.result in
-    let same = node_group nodes hs p.group node node c.groups.ensures (omega (arith, m.0, group_count nodes hs c.groups.ensures)) c.index-groups-place.is in
+    let same = node_group nodes hs p.group node node c.groups.ensures m.0 c.index-groups-place.is in
     let new = merged_list gs hs p q c.args.leaf w.0 w.1 w.2 is same c.remove.ensures in
     let n = merged_length gs hs p q c.args.leaf w.0 w.1 w.2 is in
     record { few = omega (arith, ap length new, n, x.counted.0, x.counted.1); some = omega (arith, ap length new, merged_some gs hs p q c.args.leaf w.0 w.1 w.2 is) }
@@ -87,7 +87,7 @@ returns c =
     let m = still_within gs hs p q c.args.leaf w.0 w.1 w.2 is in
     let nodes = c.groups.result.now in
     let node = c.index-groups-place.result in
-    let same = node_group nodes hs p.group node node c.groups.ensures (omega (arith, m.0, group_count nodes hs c.groups.ensures)) c.index-groups-place.is in
+    let same = node_group nodes hs p.group node node c.groups.ensures m.0 c.index-groups-place.is in
     let new = merged_list gs hs p q c.args.leaf w.0 w.1 w.2 is same c.remove.ensures in
     let all = c.rebuild.ensures ∙ ap singles new in
     let list = ap concat all ∙ concat_singles (joined (concat gs) (position gs p) c.args.leaf) in
