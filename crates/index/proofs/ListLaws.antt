@@ -1,13 +1,13 @@
 -- One turn of listing all groups, and what changes of one group do to the list of all leaves.
-use Rattle.std.proofs.Common.{◌≡◌, ℕ, zero, suc, ◌+◌, ◌-◌, ◌<◌, ◌≤◌, Bool, true, false, ◌&&◌, ltb, List, [], ◌∷◌, ◌++◌, length, Some, None, Option, is_some, Bor, slice_get, get_or, drop, set, sym, refl, ap, ◌∙◌, ⊎_elim, append_assoc, arith, length-append, length-set}
+use Rattle.std.proofs.Common.{◌≡◌, ℕ, zero, suc, ◌+◌, ◌-◌, ◌<◌, ◌≤◌, Bool, true, false, ◌&&◌, ltb, cond, List, [], ◌∷◌, ◌++◌, length, Some, None, Option, is_some, Bor, slice_get, get_or, drop, set, sym, refl, ap, ◌∙◌, ⊎_elim, append_assoc, arith, length-append, length-set}
 use Rattle.std.proofs.lemmas.List.{drop_more, get_or_append_left, get_or-append-add}
 use Rattle.index.specs.declared.node.Entry.{Entry}
 use Rattle.index.specs.Nodes.{entry, parted, renamed, without, joined}
 use Rattle.index.specs.Search.{concat, offset, Full}
 use Rattle.index.specs.declared.table.Place.{Place}
 use Rattle.index.specs.Places.{position, group_of, place_after, place_before, within}
-use Rattle.index.specs.Meaning.{leaf_at, split, splits, with_group}
-use Rattle.index.proofs.PlaceLaws.{Within, within_parts, within_of, in_its_group, told_after, none_after, told_before}
+use Rattle.index.specs.Meaning.{leaf_at, replaced, split, splits, with_group}
+use Rattle.index.proofs.PlaceLaws.{Within, within_parts, within_of, in_its_group, told_after, none_after, told_before, after_parts}
 use Rattle.index.proofs.BuildLaws.{concat_singles}
 use Rattle.index.proofs.ChangeLaws.{length_parted, length_renamed}
 use Rattle.std.proofs.lemmas.Bool.{cond-true, cond-false, cond_both, and_parts, cases_lt, ltb-false, ltb-true, le-ltb, lt-ltb}
@@ -177,13 +177,13 @@ module _ (gs hs : List (List Entry)) (p q : Place) (leaf : ℕ) (w : Within gs p
   same_long : length (renamed (group_of gs q) q.slot leaf) ≡ length (group_of gs q)
   same_long = length_renamed (group_of gs q) q.slot leaf
 
-  pub still_within : Within hs p
+  still_within : Within hs p
   still_within = (
     omega (arith, w.0, ap length is ∙ length-set gs q.group (renamed (group_of gs q) q.slot leaf)),
     omega (arith, w.1, ap (λ xs. length (get_or xs p.group [])) is ∙ length_same gs q.group p.group _ same_long),
   )
 
-  pub merged_list : {old new : List Entry} → old ≡ group_of hs p → new ≡ without old p.slot → concat (set hs p.group new) ≡ joined (concat gs) (position gs p) leaf
+  merged_list : {old new : List Entry} → old ≡ group_of hs p → new ≡ without old p.slot → concat (set hs p.group new) ≡ joined (concat gs) (position gs p) leaf
   merged_list e f =
       let at : offset hs p.group + p.slot ≡ position gs p = ap (λ n. n + p.slot) (ap (λ xs. offset xs p.group) is ∙ offset_same gs q.group p.group _ same_long) in
       let all : concat hs ≡ renamed (concat gs) (position gs p + 1) leaf = ap concat is ∙ concat_renamed gs q.group q.slot leaf v.0 v.1 ∙ ap (λ n. renamed (concat gs) n leaf) next in
@@ -191,8 +191,26 @@ module _ (gs hs : List (List Entry)) (p q : Place) (leaf : ℕ) (w : Within gs p
       ∙ concat_without hs p.group p.slot still_within.0 still_within.1
       ∙ ap (without (concat hs)) at ∙ ap (λ es. without es (position gs p)) all ∙ joined_is (concat gs) (position gs p) leaf
 
-  pub merged_length : length (joined (concat gs) (position gs p) leaf) + 1 ≡ length (concat gs)
+  merged_length : length (joined (concat gs) (position gs p) leaf) + 1 ≡ length (concat gs)
   merged_length = length_joined (concat gs) (position gs p) leaf (omega (arith, next, offset_within gs q.group q.slot v.0 v.1))
 
-  pub merged_some : 1 ≤ length (joined (concat gs) (position gs p) leaf)
+  merged_some : 1 ≤ length (joined (concat gs) (position gs p) leaf)
   merged_some = omega (arith, merged_length, next, offset_within gs q.group q.slot v.0 v.1)
+
+-- What a new leaf in the second of two neighbours leaves for the list without the first.
+pub record Merging (gs hs : List (List Entry)) (p : Place) (leaf : ℕ) : Type 0 where
+  pub there : Within hs p
+  pub list : {old new : List Entry} → old ≡ group_of hs p → new ≡ without old p.slot → concat (set hs p.group new) ≡ joined (concat gs) (position gs p) leaf
+  pub count : length (joined (concat gs) (position gs p) leaf) + 1 ≡ length (concat gs)
+  pub some : 1 ≤ length (joined (concat gs) (position gs p) leaf)
+
+pub merging : (gs hs : List (List Entry)) (p q : Place) (leaf : ℕ) → place_after gs p ≡ Some q → hs ≡ cond (within gs q) (replaced gs q leaf) gs → Merging gs hs p leaf
+merging gs hs p q leaf e f =
+    let w = after_parts gs p q e in
+    let is = f ∙ cond-true _ _ _ (within_of gs q w.1) in
+    record {
+      there = still_within gs hs p q leaf w.0 w.1 w.2 is;
+      list = λ old new. merged_list gs hs p q leaf w.0 w.1 w.2 is old new;
+      count = merged_length gs hs p q leaf w.0 w.1 w.2 is;
+      some = merged_some gs hs p q leaf w.0 w.1 w.2 is;
+    }

@@ -49,6 +49,7 @@ fn root(entries: &[Entry]) -> Node
     Node { entries: children }
 }
 
+// Leaf i alone; no leaf past the last.
 fn single(entries: &[Entry], i: usize) -> Node
     ensures { items result ≡ slice_index_or (singles entries.now) i [] }
 {
@@ -71,6 +72,7 @@ pub(crate) fn lowest(used: usize) -> usize
     }
 }
 
+// Node i of an index of one leaf to a group.
 fn made(entries: &[Entry], i: usize) -> Node
     requires { length entries.now ≤ 81 }
     ensures { items result ≡ table_node (singles entries.now) i }

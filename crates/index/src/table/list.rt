@@ -1,5 +1,5 @@
 // All leaves in their order, and changes that build the index anew.
-ghost use Rattle.std.specs.Prelude.{◌≡◌, ◌<◌, ◌≤◌, true, [], length, Some, slice_index_or, slice_set};
+ghost use Rattle.std.specs.Prelude.{◌≡◌, ◌<◌, ◌≤◌, true, length, Some, slice_set};
 ghost use Rattle.index.specs.Nodes.{items, chained, parted, joined};
 ghost use Rattle.index.specs.Search.{concat};
 ghost use Rattle.index.specs.Keeping.{AscendsWith, AscendsStill};
