@@ -3,7 +3,7 @@ use Rattle.std.proofs.Common.{◌≡◌, ℕ, zero, suc, ◌+◌, ◌-◌, ◌*�
 use lib.ListN.{length-map}
 use mathlib.Core.List.{map-append}
 use Rattle.std.proofs.lemmas.Bool.{cond-true, cond-false, cond_both, le-ltb, lt-ltb, le-leb, lt-leb, eq-eqb, ne_eqb, cases_lt, and_parts, and_from, eqb-true, cases_eq, false≢true}
-use Rattle.std.proofs.lemmas.List.{drop_all, drop_at, take_at, map_more, nil_from_length, get_or-map, get_or_past, take-map, drop-map}
+use Rattle.std.proofs.lemmas.List.{drop_all, drop_at, take_at, map_more, nil_from_length, get_or-map, take-map, drop-map}
 use denote.Param.Members.{Mut}
 use Rattle.std.specs.Fn.{Called}
 use Rattle.std.specs.Array.{IsFromFnResultFrom}
@@ -34,14 +34,8 @@ children_turn n es i d {out} {more} h k is long push =
     ap (numbered n) (map_more (λ (e : Entry). e.bound) es i d h) ∙ rw at at (numbered_more n (bounds (take i es)) b) in
     (added ∙ ap (λ xs. xs ++ (entry (n + i) b ∷ [])) is ∙ sym same, omega (arith, simp length-append at (ap length added)))
 
-pub single_within : (es : List Entry) (i : ℕ) (d : Entry) {p q : List Entry} → i < length es → p ≡ [] → q ≡ p ++ (get_or es i d ∷ []) → q ≡ get_or (singles es) i []
-single_within es i d h e f = rw (f, e) (sym (get_or-map (λ x. x ∷ []) es i d [] h))
-
-pub single_past : (es : List Entry) (i : ℕ) {p : List Entry} → length es ≤ i → p ≡ [] → p ≡ get_or (singles es) i []
-single_past es i h e = e ∙ sym (get_or_past (singles es) i [] (simp length-map h))
-
 -- Rows of nine.
-pub rows_next : {X : Type 0} (k : ℕ) (xs row rest : List X) → xs ≡ row ++ rest → length row ≡ min 9 (length xs) → 0 < length xs → rows (suc k) xs ≡ row ∷ rows k rest
+rows_next : {X : Type 0} (k : ℕ) (xs row rest : List X) → xs ≡ row ++ rest → length row ≡ min 9 (length xs) → 0 < length xs → rows (suc k) xs ≡ row ∷ rows k rest
 rows_next k [] row rest e n h = absurd (omega arith)
 rows_next k (x ∷ xs) row rest e n h =
     let long : length (x ∷ xs) ≡ length row + length rest = ap length e ∙ length-append row rest in
@@ -108,35 +102,10 @@ table_singles es i =
 pub lowest_le : (n : ℕ) → lowest n ≤ 10
 lowest_le n = cond_both (leb n 1) 0 _ (λ m. m ≤ 10) (λ t. omega arith) (λ f. cond_both (leb n 9) 1 10 (λ m. m ≤ 10) (λ t. omega arith) (λ g. omega arith))
 
-le_refl : (n : ℕ) → n ≤ n
-le_refl n = omega arith
-
-take_min : {X : Type 0} (xs : List X) (m : ℕ) → take (min (length xs) m) xs ≡ take m xs
-take_min xs m =
-    ⊎_elim (λ h. let z : min (length xs) m ≡ m = omega arith in rw z)
-    (λ h. let z : min (length xs) m ≡ length xs = omega arith in rw z (take_all (length xs) xs (le_refl (length xs)) ∙ sym (take_all m xs h)))
-    (cases_lt m (length xs))
-
-drop_min : {X : Type 0} (xs : List X) (m : ℕ) → drop (min (length xs) m) xs ≡ drop m xs
-drop_min xs m =
-    ⊎_elim (λ h. let z : min (length xs) m ≡ m = omega arith in rw z)
-    (λ h. let z : min (length xs) m ≡ length xs = omega arith in rw z (drop_all (length xs) xs (le_refl (length xs)) ∙ sym (drop_all m xs h)))
-    (cases_lt m (length xs))
-
-row_is : {X : Type 0} (xs : List X) (i from end : ℕ) → 0 < i → from ≡ min (length xs) (9 * i - 9) → end ≡ min (length xs) (9 * i) → take (end - from) (drop from xs) ≡ take 9 (drop (9 * (i - 1)) xs)
-row_is xs i from end h f t =
-    let n : end - from ≡ min (length (drop from xs)) 9 = rw length-drop (omega arith) in
-    let a : 9 * i - 9 ≡ 9 * (i - 1) = omega arith in
-    let ys : drop from xs ≡ drop (9 * (i - 1)) xs = rw (f, a) (drop_min xs (9 * (i - 1))) in
-    rw n (take_min (drop from xs) 9) ∙ ap (take 9) ys
-
 bounds_part : (es : List Entry) (n m : ℕ) → bounds (take n (drop m es)) ≡ take n (drop m (bounds es))
 bounds_part es n m = sym (take-map (λ (e : Entry). e.bound) n (drop m es)) ∙ ap (take n) (sym (drop-map (λ (e : Entry). e.bound) m es))
 
 module _ (es : List Entry) (i : ℕ) {low : ℕ} {p : List Entry} (is : low ≡ lowest (length es)) where
-  pub made_low : low ≤ i → p ≡ get_or (singles es) (i - low) [] → p ≡ table (singles es) i
-  made_low h e = e ∙ rw is (sym (cond-false _ _ _ (le-ltb i (lowest (length es)) (rw is at h)))) ∙ sym (table_singles es i)
-
   module _ (h : i < low) where
     above : p ≡ upper (length es) (bounds es) i → p ≡ table (singles es) i
     above e = e ∙ sym (cond-true _ _ _ (lt-ltb i (lowest (length es)) (rw is at h))) ∙ sym (table_singles es i)
@@ -147,13 +116,11 @@ module _ (es : List Entry) (i : ℕ) {low : ℕ} {p : List Entry} (is : low ≡ 
     pub made_root : 9 < length es → i ≡ 0 → p ≡ numbered 1 (map last (rows 9 (bounds es))) → p ≡ table (singles es) i
     made_root k z e = above (e ∙ sym (cond-true _ _ _ (eq-eqb i 0 z)) ∙ sym (cond-false _ _ _ (lt-leb (length es) 9 k)))
 
-    pub made_row : 9 < length es → (i ≡ 0 → ⊥) → {from end : ℕ} → from ≡ min (length es) (9 * i - 9) → end ≡ min (length es) (9 * i)
-        → p ≡ numbered (9 * i + 1) (bounds (take (end - from) (drop from es))) → p ≡ table (singles es) i
-    made_row k z {from} {end} f t e =
+    pub made_row : 9 < length es → (i ≡ 0 → ⊥) → {row : List Entry} → row ≡ take 9 (drop (9 * (i - 1)) es) → p ≡ numbered (9 * i + 1) (bounds row) → p ≡ table (singles es) i
+    made_row k z {row} r e =
         let long : length (bounds es) ≡ length es = simp length-map in
-        let row : bounds (take (end - from) (drop from es)) ≡ get_or (rows 9 (bounds es)) (i - 1) [] =
-        bounds_part es (end - from) from ∙ row_is (bounds es) i from end (omega arith) (rw long f) (rw long t) ∙ sym (rows_at 9 (bounds es) (i - 1) (omega (arith, is, lowest_le (length es)))) in
-        above (e ∙ ap (numbered (9 * i + 1)) row ∙ sym (cond-false _ _ _ (ne_eqb i 0 z)) ∙ sym (cond-false _ _ _ (lt-leb (length es) 9 k)))
+        let same : bounds row ≡ get_or (rows 9 (bounds es)) (i - 1) [] = ap bounds r ∙ bounds_part es 9 (9 * (i - 1)) ∙ sym (rows_at 9 (bounds es) (i - 1) (omega (arith, is, lowest_le (length es)))) in
+        above (e ∙ ap (numbered (9 * i + 1)) same ∙ sym (cond-false _ _ _ (ne_eqb i 0 z)) ∙ sym (cond-false _ _ _ (lt-leb (length es) 9 k)))
 
 same_head : (e f : Entry) → e.to ≡ f.to → e.bound.0 ≡ f.bound.0 → e.bound.1 ≡ f.bound.1 → e ≡ f
 same_head e f a b c = ap (λ n. entry n e.bound) a ∙ ap (λ n. entry f.to (n, e.bound.1)) b ∙ ap (λ n. entry f.to (f.bound.0, n)) c
@@ -182,14 +149,14 @@ table_low gs k =
     cond-false _ _ _ (le-ltb (lowest (length gs) + k) (lowest (length gs)) (omega arith)) ∙ ap (λ j. get_or gs j []) at
 
 module _ (gs : List (List Entry)) (nodes : List Node) (h : length gs ≤ 81) (long : length nodes ≡ 91) (each : (k : ℕ) → k < 91 → get_or (map items nodes) k [] ≡ table gs k) where
-  pub built_groups : groups (length gs) nodes ≡ gs
+  built_groups : groups (length gs) nodes ≡ gs
   built_groups =
       let low = lowest_le (length gs) in
       let n : length (groups (length gs) nodes) ≡ length gs = simp (length-take, length-drop, length-map) (omega arith) in
       ext_get_or [] (groups (length gs) nodes) gs n (λ k below.
       get_or-take (length gs) (drop (lowest (length gs)) (map items nodes)) k [] (omega arith) ∙ get_or-drop (lowest (length gs)) (map items nodes) k [] ∙ each (lowest (length gs) + k) (omega arith) ∙ table_low gs k)
 
-  pub built_sound : Sound (length gs) nodes
+  built_sound : Sound (length gs) nodes
   built_sound i k = same_of _ _ (each i k ∙ rw built_groups)
 
 singles_one : (es : List Entry) (g : ℕ) → g < length (singles es) → length (get_or (singles es) g []) ≡ 1

@@ -1,5 +1,5 @@
 -- The bounds still ascend after a split of a leaf.
-use Rattle.std.proofs.Common.{◌≡◌, ℕ, zero, suc, ◌+◌, ◌<◌, true, leb, ◌≢◌, List, [], ◌∷◌, length, get_or, set, refl, ap, ◌∙◌, arith, length-set}
+use Rattle.std.proofs.Common.{◌≡◌, ℕ, zero, suc, ◌+◌, ◌<◌, true, leb, ◌≢◌, List, [], ◌∷◌, length, Some, get_or, set, refl, ap, ◌∙◌, arith, length-set}
 use lib.ListN.{length-map}
 use Rattle.keys.specs.InWords.{WordKind, WordOrdered}
 use Rattle.index.specs.declared.node.Entry.{Entry}
@@ -8,9 +8,9 @@ use Rattle.index.specs.Search.{concat, last, front, Above, Ascending}
 use Rattle.index.specs.Showing.{telling, node_told}
 use Rattle.std.proofs.lemmas.Bool.{cond-true, lt-ltb}
 use Rattle.index.specs.Shape.{lowest, table}
-use Rattle.index.specs.Places.{group_of, position}
+use Rattle.index.specs.Places.{group_of, position, place_after}
 use Rattle.index.specs.Keeping.{AscendsWith, AscendsStill, FitsAt, SplitAscends, MergeAscends, ReplaceKeeps, ReplaceOneNode, SplitOneNode}
-use Rattle.index.proofs.PlaceLaws.{Within, within_parts}
+use Rattle.index.proofs.PlaceLaws.{Within, within_parts, after_parts}
 use Rattle.index.proofs.ListLaws.{offset_within}
 use Rattle.index.specs.declared.table.Place.{Place}
 use Rattle.index.proofs.ChangeLaws.{bounds_renamed, last_parted, table_kept}
@@ -125,6 +125,7 @@ pub split_keeps : (gs : List (List Entry)) (p : Place) (left : ℕ) (b : ℕ × 
 split_keeps gs p left b right w e o laws up fits =
     rw e (split_ascends (concat gs) (position gs p) left b right (offset_within gs p.group p.slot w.0 w.1) o laws up fits)
 
-pub merge_keeps : (gs : List (List Entry)) (p q : Place) (leaf : ℕ) {new : List Entry} → Within gs q → position gs q ≡ position gs p + 1 → new ≡ joined (concat gs) (position gs p) leaf → AscendsStill (concat gs) new
-merge_keeps gs p q leaf w next e o up =
-    rw e (merge_ascends (concat gs) (position gs p) leaf (omega (arith, next, offset_within gs q.group q.slot w.0 w.1)) o up)
+pub merge_keeps : (gs : List (List Entry)) (p q : Place) (leaf : ℕ) {new : List Entry} → place_after gs p ≡ Some q → new ≡ joined (concat gs) (position gs p) leaf → AscendsStill (concat gs) new
+merge_keeps gs p q leaf after e o up =
+    let w = after_parts gs p q after in
+    rw e (merge_ascends (concat gs) (position gs p) leaf (omega (arith, w.2, offset_within gs q.group q.slot w.1.0 w.1.1)) o up)

@@ -1,13 +1,13 @@
 -- One turn of listing all groups, and what changes of one group do to the list of all leaves.
-use Rattle.std.proofs.Common.{◌≡◌, ℕ, zero, suc, ◌+◌, ◌-◌, ◌<◌, ◌≤◌, Bool, true, false, ◌&&◌, ltb, List, [], ◌∷◌, ◌++◌, length, Some, None, Option, is_some, Bor, slice_get, get_or, drop, set, sym, refl, ap, ◌∙◌, ⊎_elim, append_assoc, append-nil, arith, length-append, length-set}
-use Rattle.std.proofs.lemmas.List.{drop_more, drop_all, get_or_append_left, get_or-append-add}
+use Rattle.std.proofs.Common.{◌≡◌, ℕ, zero, suc, ◌+◌, ◌-◌, ◌<◌, ◌≤◌, Bool, true, false, ◌&&◌, ltb, cond, List, [], ◌∷◌, ◌++◌, length, Some, None, Option, is_some, Bor, slice_get, get_or, drop, set, sym, refl, ap, ◌∙◌, ⊎_elim, append_assoc, arith, length-append, length-set}
+use Rattle.std.proofs.lemmas.List.{drop_more, get_or_append_left, get_or-append-add}
 use Rattle.index.specs.declared.node.Entry.{Entry}
 use Rattle.index.specs.Nodes.{entry, parted, renamed, without, joined}
 use Rattle.index.specs.Search.{concat, offset, Full}
 use Rattle.index.specs.declared.table.Place.{Place}
 use Rattle.index.specs.Places.{position, group_of, place_after, place_before, within}
-use Rattle.index.specs.Meaning.{leaf_at, split, splits, with_group}
-use Rattle.index.proofs.PlaceLaws.{Within, within_parts, within_of, in_its_group, told_after, none_after, told_before, none_before}
+use Rattle.index.specs.Meaning.{leaf_at, replaced, split, splits, with_group}
+use Rattle.index.proofs.PlaceLaws.{Within, within_parts, within_of, in_its_group, told_after, none_after, told_before, after_parts}
 use Rattle.index.proofs.BuildLaws.{concat_singles}
 use Rattle.index.proofs.ChangeLaws.{length_parted, length_renamed}
 use Rattle.std.proofs.lemmas.Bool.{cond-true, cond-false, cond_both, and_parts, cases_lt, ltb-false, ltb-true, le-ltb, lt-ltb}
@@ -34,40 +34,32 @@ module _ (gs : List (List Entry)) (g : ℕ) (out : List Entry) {all : List Entry
   pub list_turn : (part : List Entry) {more : List Entry} → g < length gs → part ≡ get_or gs g [] → more ≡ out ++ part → more ++ concat (drop (g + 1) gs) ≡ all
   list_turn part h is push = rw (push, is) (append_assoc out (get_or gs g []) _ ∙ here h)
 
-  pub list_end : length gs ≤ g → out ≡ all
-  list_end h = sym (append-nil out) ∙ ap (λ xs. out ++ concat xs) (sym (drop_all g gs h)) ∙ rest
+-- An edit at one place of a list, in its group and in the list of all leaves.
+module _ (f : List Entry → ℕ → List Entry) (step : (e : Entry) (es : List Entry) (s : ℕ) → f (e ∷ es) (suc s) ≡ e ∷ f es s) (base : (e : Entry) (xs ys : List Entry) → f (e ∷ xs) 0 ++ ys ≡ f (e ∷ (xs ++ ys)) 0) where
+  edit_front : (xs ys : List Entry) (s : ℕ) → s < length xs → f xs s ++ ys ≡ f (xs ++ ys) s
+  edit_front [] ys s h = absurd (omega arith)
+  edit_front (x ∷ xs) ys zero h = base x xs ys
+  edit_front (x ∷ xs) ys (suc s) h = ap (λ es. es ++ ys) (step x xs s) ∙ ap (λ es. x ∷ es) (edit_front xs ys s (omega arith)) ∙ sym (step x (xs ++ ys) s)
 
-parted_front : (xs ys : List Entry) (s left : ℕ) (b : ℕ × ℕ) (right : ℕ) → s < length xs → parted xs s left b right ++ ys ≡ parted (xs ++ ys) s left b right
-parted_front [] ys s left b right h = absurd (omega arith)
-parted_front (x ∷ xs) ys zero left b right h = refl
-parted_front (x ∷ xs) ys (suc s) left b right h = ap (λ es. x ∷ es) (parted_front xs ys s left b right (omega arith))
+  edit_back : (xs ys : List Entry) (s : ℕ) → xs ++ f ys s ≡ f (xs ++ ys) (length xs + s)
+  edit_back [] ys s = let z : 0 + s ≡ s = omega arith in rw z
+  edit_back (x ∷ xs) ys s = let z : length (x ∷ xs) + s ≡ suc (length xs + s) = omega arith in rw z (ap (λ es. x ∷ es) (edit_back xs ys s) ∙ sym (step x (xs ++ ys) (length xs + s)))
 
-parted_back : (xs ys : List Entry) (s left : ℕ) (b : ℕ × ℕ) (right : ℕ) → xs ++ parted ys s left b right ≡ parted (xs ++ ys) (length xs + s) left b right
-parted_back [] ys s left b right = let z : 0 + s ≡ s = omega arith in rw z
-parted_back (x ∷ xs) ys s left b right = let z : length (x ∷ xs) + s ≡ suc (length xs + s) = omega arith in rw z (ap (λ es. x ∷ es) (parted_back xs ys s left b right))
+  concat_edit : (gs : List (List Entry)) (g s : ℕ) → g < length gs → s < length (get_or gs g []) → concat (set gs g (f (get_or gs g []) s)) ≡ f (concat gs) (offset gs g + s)
+  concat_edit [] g s h k = absurd (omega arith)
+  concat_edit (x ∷ gs) zero s h k = let z : 0 + s ≡ s = omega arith in rw z (edit_front x (concat gs) s k)
+  concat_edit (x ∷ gs) (suc g) s h k =
+      let z : length x + offset gs g + s ≡ length x + (offset gs g + s) = omega arith in
+      rw z (ap (λ es. x ++ es) (concat_edit gs g s (omega arith) k) ∙ edit_back x (concat gs) (offset gs g + s))
 
-pub concat_parted : (gs : List (List Entry)) (g s left : ℕ) (b : ℕ × ℕ) (right : ℕ) → g < length gs → s < length (get_or gs g []) → concat (set gs g (parted (get_or gs g []) s left b right)) ≡ parted (concat gs) (offset gs g + s) left b right
-concat_parted [] g s left b right h k = absurd (omega arith)
-concat_parted (x ∷ gs) zero s left b right h k = let z : 0 + s ≡ s = omega arith in rw z (parted_front x (concat gs) s left b right k)
-concat_parted (x ∷ gs) (suc g) s left b right h k =
-    let z : length x + offset gs g + s ≡ length x + (offset gs g + s) = omega arith in
-    rw z (ap (λ es. x ++ es) (concat_parted gs g s left b right (omega arith) k) ∙ parted_back x (concat gs) (offset gs g + s) left b right)
-
-renamed_front : (xs ys : List Entry) (s leaf : ℕ) → s < length xs → renamed xs s leaf ++ ys ≡ renamed (xs ++ ys) s leaf
-renamed_front [] ys s leaf h = absurd (omega arith)
-renamed_front (x ∷ xs) ys zero leaf h = refl
-renamed_front (x ∷ xs) ys (suc s) leaf h = ap (λ es. x ∷ es) (renamed_front xs ys s leaf (omega arith))
-
-renamed_back : (xs ys : List Entry) (s leaf : ℕ) → xs ++ renamed ys s leaf ≡ renamed (xs ++ ys) (length xs + s) leaf
-renamed_back [] ys s leaf = let z : 0 + s ≡ s = omega arith in rw z
-renamed_back (x ∷ xs) ys s leaf = let z : length (x ∷ xs) + s ≡ suc (length xs + s) = omega arith in rw z (ap (λ es. x ∷ es) (renamed_back xs ys s leaf))
+concat_parted : (gs : List (List Entry)) (g s left : ℕ) (b : ℕ × ℕ) (right : ℕ) → g < length gs → s < length (get_or gs g []) → concat (set gs g (parted (get_or gs g []) s left b right)) ≡ parted (concat gs) (offset gs g + s) left b right
+concat_parted gs g s left b right = concat_edit (λ es n. parted es n left b right) (λ e es n. refl) (λ e xs ys. refl) gs g s
 
 pub concat_renamed : (gs : List (List Entry)) (g s leaf : ℕ) → g < length gs → s < length (get_or gs g []) → concat (set gs g (renamed (get_or gs g []) s leaf)) ≡ renamed (concat gs) (offset gs g + s) leaf
-concat_renamed [] g s leaf h k = absurd (omega arith)
-concat_renamed (x ∷ gs) zero s leaf h k = let z : 0 + s ≡ s = omega arith in rw z (renamed_front x (concat gs) s leaf k)
-concat_renamed (x ∷ gs) (suc g) s leaf h k =
-    let z : length x + offset gs g + s ≡ length x + (offset gs g + s) = omega arith in
-    rw z (ap (λ es. x ++ es) (concat_renamed gs g s leaf (omega arith) k) ∙ renamed_back x (concat gs) (offset gs g + s) leaf)
+concat_renamed gs g s leaf = concat_edit (λ es n. renamed es n leaf) (λ e es n. refl) (λ e xs ys. refl) gs g s
+
+concat_without : (gs : List (List Entry)) (g s : ℕ) → g < length gs → s < length (get_or gs g []) → concat (set gs g (without (get_or gs g []) s)) ≡ without (concat gs) (offset gs g + s)
+concat_without = concat_edit without (λ e es n. refl) (λ e xs ys. refl)
 
 -- A place is within the list of all leaves.
 pub offset_within : {X : Type 0} (gs : List (List X)) (g s : ℕ) → g < length gs → s < length (get_or gs g []) → offset gs g + s < length (concat gs)
@@ -82,9 +74,6 @@ length_split gs g s left b right h k = ap length (concat_parted gs g s left b ri
 module _ (gs : List (List Entry)) (p : Place) where
   pub splits_parts : splits gs p ≡ true → Within gs p × (length (concat gs) < 64)
   splits_parts t = let h = and_parts (within gs p) _ t in (within_parts gs p h.0, ltb-true _ _ h.1)
-
-  pub splits_within : splits gs p ≡ true → within gs p ≡ true
-  splits_within t = (and_parts (within gs p) _ t).0
 
   pub no_split : 64 ≤ length (concat gs) → false ≡ splits gs p
   no_split h = and_false (within gs p) _ (le-ltb (length (concat gs)) 64 h)
@@ -103,7 +92,7 @@ pub split_list : (gs : List (List Entry)) (p : Place) (left : ℕ) (b : ℕ × �
 split_list gs p left b right e f = ap (λ es. concat (set gs p.group es)) (f ∙ ap (λ es. parted es p.slot left b right) e)
 
 -- The leaf at a place.
-pub offset_at : {X : Type 0} (gs : List (List X)) (g s : ℕ) (d : X) → g < length gs → s < length (get_or gs g []) → get_or (concat gs) (offset gs g + s) d ≡ get_or (get_or gs g []) s d
+offset_at : {X : Type 0} (gs : List (List X)) (g s : ℕ) (d : X) → g < length gs → s < length (get_or gs g []) → get_or (concat gs) (offset gs g + s) d ≡ get_or (get_or gs g []) s d
 offset_at [] g s d h k = absurd (omega arith)
 offset_at (x ∷ gs) zero s d h k = let z : 0 + s ≡ s = omega arith in rw z (get_or_append_left x (concat gs) d s k)
 offset_at (x ∷ gs) (suc g) s d h k =
@@ -111,20 +100,16 @@ offset_at (x ∷ gs) (suc g) s d h k =
     rw z (get_or-append-add x (concat gs) (offset gs g + s) d ∙ offset_at gs g s d (omega arith) k)
 
 -- One group on.
-pub offset_more : {X : Type 0} (gs : List (List X)) (g : ℕ) → g < length gs → offset gs (g + 1) ≡ offset gs g + length (get_or gs g [])
+offset_more : {X : Type 0} (gs : List (List X)) (g : ℕ) → g < length gs → offset gs (g + 1) ≡ offset gs g + length (get_or gs g [])
 offset_more [] g h = absurd (omega arith)
 offset_more (x ∷ []) zero h = omega arith
 offset_more (x ∷ y ∷ gs) zero h = omega arith
 offset_more (x ∷ gs) (suc g) h = let more = offset_more gs g (omega arith) in let z : suc g + 1 ≡ suc (g + 1) = omega arith in rw z (omega (arith, more))
 
-pub offset_all : {X : Type 0} (gs : List (List X)) (g : ℕ) → length gs ≤ g → offset gs g ≡ length (concat gs)
+offset_all : {X : Type 0} (gs : List (List X)) (g : ℕ) → length gs ≤ g → offset gs g ≡ length (concat gs)
 offset_all [] g h = refl
 offset_all (x ∷ gs) zero h = absurd (omega arith)
 offset_all (x ∷ gs) (suc g) h = let more = offset_all gs g (omega arith) in rw length-append (omega arith)
-
-pub offset_none : {X : Type 0} (gs : List (List X)) → offset gs 0 ≡ 0
-offset_none [] = refl
-offset_none (x ∷ gs) = refl
 
 pub item_is : {X : Type 0} (xs : List X) (i : ℕ) (r : Option (Bor X)) → is_some r ≡ ltb i (length xs) → IfSome r (λ x. x.now ≡ get_or xs i x.now) → option_copied r ≡ slice_get xs i
 item_is xs i None e s = sym (slice_get_past xs i (ltb-false _ _ (sym e)))
@@ -162,25 +147,6 @@ module _ (gs : List (List Entry)) (p : Place) (t : within gs p ≡ true) where
       let h : g < length gs = omega (arith, w.0) in
       told_before gs p w _ (h, omega arith) (omega (arith, offset_more gs g h, ap (offset gs) e))
 
-  pub no_last : p.group ≡ 0 → p.slot ≡ 0 → None ≡ place_before gs p
-  no_last e z = none_before gs p (within_parts gs p t) (omega (arith, ap (offset gs) e ∙ offset_none gs))
-
-without_front : (xs ys : List Entry) (s : ℕ) → s < length xs → without xs s ++ ys ≡ without (xs ++ ys) s
-without_front [] ys s h = absurd (omega arith)
-without_front (x ∷ xs) ys zero h = refl
-without_front (x ∷ xs) ys (suc s) h = ap (λ es. x ∷ es) (without_front xs ys s (omega arith))
-
-without_back : (xs ys : List Entry) (s : ℕ) → xs ++ without ys s ≡ without (xs ++ ys) (length xs + s)
-without_back [] ys s = let z : 0 + s ≡ s = omega arith in rw z
-without_back (x ∷ xs) ys s = let z : length (x ∷ xs) + s ≡ suc (length xs + s) = omega arith in rw z (ap (λ es. x ∷ es) (without_back xs ys s))
-
-concat_without : (gs : List (List Entry)) (g s : ℕ) → g < length gs → s < length (get_or gs g []) → concat (set gs g (without (get_or gs g []) s)) ≡ without (concat gs) (offset gs g + s)
-concat_without [] g s h k = absurd (omega arith)
-concat_without (x ∷ gs) zero s h k = let z : 0 + s ≡ s = omega arith in rw z (without_front x (concat gs) s k)
-concat_without (x ∷ gs) (suc g) s h k =
-    let z : length x + offset gs g + s ≡ length x + (offset gs g + s) = omega arith in
-    rw z (ap (λ es. x ++ es) (concat_without gs g s (omega arith) k) ∙ without_back x (concat gs) (offset gs g + s))
-
 joined_is : (es : List Entry) (s leaf : ℕ) → without (renamed es (s + 1) leaf) s ≡ joined es s leaf
 joined_is [] s leaf = refl
 joined_is (e ∷ es) zero leaf = refl
@@ -211,13 +177,13 @@ module _ (gs hs : List (List Entry)) (p q : Place) (leaf : ℕ) (w : Within gs p
   same_long : length (renamed (group_of gs q) q.slot leaf) ≡ length (group_of gs q)
   same_long = length_renamed (group_of gs q) q.slot leaf
 
-  pub still_within : Within hs p
+  still_within : Within hs p
   still_within = (
     omega (arith, w.0, ap length is ∙ length-set gs q.group (renamed (group_of gs q) q.slot leaf)),
     omega (arith, w.1, ap (λ xs. length (get_or xs p.group [])) is ∙ length_same gs q.group p.group _ same_long),
   )
 
-  pub merged_list : {old new : List Entry} → old ≡ group_of hs p → new ≡ without old p.slot → concat (set hs p.group new) ≡ joined (concat gs) (position gs p) leaf
+  merged_list : {old new : List Entry} → old ≡ group_of hs p → new ≡ without old p.slot → concat (set hs p.group new) ≡ joined (concat gs) (position gs p) leaf
   merged_list e f =
       let at : offset hs p.group + p.slot ≡ position gs p = ap (λ n. n + p.slot) (ap (λ xs. offset xs p.group) is ∙ offset_same gs q.group p.group _ same_long) in
       let all : concat hs ≡ renamed (concat gs) (position gs p + 1) leaf = ap concat is ∙ concat_renamed gs q.group q.slot leaf v.0 v.1 ∙ ap (λ n. renamed (concat gs) n leaf) next in
@@ -225,8 +191,26 @@ module _ (gs hs : List (List Entry)) (p q : Place) (leaf : ℕ) (w : Within gs p
       ∙ concat_without hs p.group p.slot still_within.0 still_within.1
       ∙ ap (without (concat hs)) at ∙ ap (λ es. without es (position gs p)) all ∙ joined_is (concat gs) (position gs p) leaf
 
-  pub merged_length : length (joined (concat gs) (position gs p) leaf) + 1 ≡ length (concat gs)
+  merged_length : length (joined (concat gs) (position gs p) leaf) + 1 ≡ length (concat gs)
   merged_length = length_joined (concat gs) (position gs p) leaf (omega (arith, next, offset_within gs q.group q.slot v.0 v.1))
 
-  pub merged_some : 1 ≤ length (joined (concat gs) (position gs p) leaf)
+  merged_some : 1 ≤ length (joined (concat gs) (position gs p) leaf)
   merged_some = omega (arith, merged_length, next, offset_within gs q.group q.slot v.0 v.1)
+
+-- What a new leaf in the second of two neighbours leaves for the list without the first.
+pub record Merging (gs hs : List (List Entry)) (p : Place) (leaf : ℕ) : Type 0 where
+  pub there : Within hs p
+  pub list : {old new : List Entry} → old ≡ group_of hs p → new ≡ without old p.slot → concat (set hs p.group new) ≡ joined (concat gs) (position gs p) leaf
+  pub count : length (joined (concat gs) (position gs p) leaf) + 1 ≡ length (concat gs)
+  pub some : 1 ≤ length (joined (concat gs) (position gs p) leaf)
+
+pub merging : (gs hs : List (List Entry)) (p q : Place) (leaf : ℕ) → place_after gs p ≡ Some q → hs ≡ cond (within gs q) (replaced gs q leaf) gs → Merging gs hs p leaf
+merging gs hs p q leaf e f =
+    let w = after_parts gs p q e in
+    let is = f ∙ cond-true _ _ _ (within_of gs q w.1) in
+    record {
+      there = still_within gs hs p q leaf w.0 w.1 w.2 is;
+      list = λ old new. merged_list gs hs p q leaf w.0 w.1 w.2 is old new;
+      count = merged_length gs hs p q leaf w.0 w.1 w.2 is;
+      some = merged_some gs hs p q leaf w.0 w.1 w.2 is;
+    }

@@ -1,10 +1,10 @@
 -- The walk from the root down.
-use Rattle.std.proofs.Common.{◌≡◌, ℕ, zero, suc, ◌+◌, ◌-◌, ◌*◌, ◌<◌, ◌≤◌, min, List, [], ◌∷◌, ◌++◌, map, length, get_or, take, drop, sym, refl, ap, ◌∙◌, subst, arith, length-append, length-drop, length-take}
+use Rattle.std.proofs.Common.{◌≡◌, ℕ, zero, suc, ◌+◌, ◌-◌, ◌*◌, ◌<◌, ◌≤◌, min, List, [], ◌∷◌, ◌++◌, map, length, get_or, take, drop, sym, refl, ap, ◌∙◌, subst, ⊎_elim, arith, length-append, length-drop, length-take}
 use mathlib.Core.List.{map-append}
 use lib.ListN
 use lib.ListN.{length-map}
 use Rattle.std.proofs.lemmas.List.{get_or-map}
-use Rattle.std.proofs.lemmas.Bool.{cond-true, cond-false, lt-ltb, le-leb, lt-leb, ne_eqb}
+use Rattle.std.proofs.lemmas.Bool.{cond-true, cond-false, lt-ltb, le-leb, lt-leb, ne_eqb, cases_lt}
 use Rattle.keys.specs.InWords.{WordKind, WordOrdered}
 use Rattle.index.specs.declared.node.Entry.{Entry}
 use Rattle.index.specs.declared.node.Node.{Node}
@@ -114,14 +114,14 @@ module _ (gs : List (List Entry)) where
     root_length : length (table gs 0) ≡ length (rows 9 (lasts gs))
     root_length = ap length many_root ∙ length_numbered 1 (map last (rows 9 (lasts gs))) ∙ length-map (rows 9 (lasts gs)) last
 
-    pub root_some : 0 < length (table gs 0)
+    root_some : 0 < length (table gs 0)
     root_some = rw root_length (some_rows 8 (lasts gs) (simp length-map (omega arith)))
 
     module _ (q : ℕ) (in-root : q < length (table gs 0)) where
       q_within : q < length (rows 9 (lasts gs))
       q_within = rw root_length at in-root
 
-      pub q_small : q < 9
+      q_small : q < 9
       q_small = omega (arith, q_within, rows_most 9 (lasts gs))
 
       row_length : length (table gs (1 + q)) ≡ length (get_or (rows 9 (lasts gs)) q [])
@@ -147,6 +147,9 @@ module _ (gs : List (List Entry)) where
           let inner : search o key (get_or rs q []) ≡ j = sym (ej ∙ ap (search o key) (ap bounds (many_row q q_small) ∙ bounds_numbered _ (get_or rs q []))) in
           let before : offset rs q ≡ 9 * q = offset_rows 9 (lasts gs) q q_within in
           sym (ap (search o key) (sym whole) ∙ go ∙ rw (at, before, inner))
+
+pub root_has : (gs : List (List Entry)) → 1 < length gs → 0 < length (table gs 0)
+root_has gs h = ⊎_elim (λ k. root_some gs k) (λ k. omega (arith, few_length gs h k)) (cases_lt 9 (length gs))
 
 -- The node of a group.
 pub low_node : (x : Index) (low group : ℕ) → low ≡ lowest x.used → group < length (grouped x) → (low + group < 91) × (table (grouped x) (low + group) ≡ get_or (grouped x) group [])

@@ -1,7 +1,10 @@
 -- Filling and searching one node.
-use Rattle.std.proofs.Common.{◌≡◌, ℕ, zero, suc, ◌+◌, ◌<◌, ◌≤◌, Bool, true, false, cond, List, [], ◌∷◌, ◌++◌, length, get_or, take, drop, set, sym, refl, ap, ◌∙◌, arith, length-drop}
+use Rattle.std.proofs.Common.{◌≡◌, ℕ, zero, suc, ◌+◌, ◌-◌, ◌<◌, ◌≤◌, true, false, cond, Option, List, [], ◌∷◌, ◌++◌, length, get_or, take, take_all, drop, set, sym, refl, ap, ◌∙◌, arith, length-append, length-take}
 use lib.ListN.{length-map}
-use Rattle.std.proofs.lemmas.List.{drop_more, drop_all}
+use Rattle.std.proofs.lemmas.List.{take_more}
+use Rattle.std.proofs.lemmas.Iterator.{index_from_first}
+use Rattle.std.specs.List.{AllWithin, HoldsAt}
+use Rattle.std.specs.Option.{MatchOption, unwrap_or}
 use Rattle.std.proofs.lemmas.Bool.{cond-true, cond-false, le-leb}
 use Rattle.keys.specs.InWords.{WordKind}
 use Rattle.index.specs.declared.node.Entry.{Entry}
@@ -29,19 +32,17 @@ pub cons_search : (o : WordKind) (key b : ℕ × ℕ) (bs : List (ℕ × ℕ)) �
 cons_search o key b [] h = absurd (omega arith)
 cons_search o key b (c ∷ bs) h = refl
 
-module _ (o : WordKind) (key : ℕ × ℕ) (es : List Entry) (i : ℕ) (d : Entry) {all : ℕ} (rest : i + search o key (bounds (drop i es)) ≡ all) where
-  here : i + 1 < length es → search o key (bounds (drop i es)) ≡ cond (o.before (get_or es i d).bound key) (suc (search o key (bounds (drop (i + 1) es)))) 0
-  here h =
-      let more : 0 < length (bounds (drop (i + 1) es)) = simp (length-map, length-drop) (omega arith) in
-      ap (λ xs. search o key (bounds xs)) (drop_more es i d (omega arith)) ∙ cons_search o key (get_or es i d).bound (bounds (drop (i + 1) es)) more
-
-  pub search_here : i + 1 < length es → {b : Bool} → b ≡ o.before (get_or es i d).bound key → b ≡ false → i ≡ all
-  search_here h is f = let z : search o key (bounds (drop i es)) ≡ 0 = here h ∙ cond-false _ _ _ (sym is ∙ f) in omega arith
-
-  pub search_on : i + 1 < length es → {b : Bool} → b ≡ o.before (get_or es i d).bound key → b ≡ true → i + 1 + search o key (bounds (drop (i + 1) es)) ≡ all
-  search_on h is t = let z : search o key (bounds (drop i es)) ≡ suc (search o key (bounds (drop (i + 1) es))) = here h ∙ cond-true _ _ _ (sym is ∙ t) in omega arith
-
-  pub search_last : i + 1 ≡ length es → i ≡ all
-  search_last h =
-      let z : search o key (bounds (drop i es)) ≡ 0 = ap (λ xs. search o key (bounds xs)) (drop_more es i d (omega arith) ∙ ap (λ xs. get_or es i d ∷ xs) (drop_all (i + 1) es (omega arith))) in
-      omega arith
+-- The search comes to the first place whose bound is not before the key, of all but the last, otherwise to the last.
+pub search_first : (o : WordKind) (key : ℕ × ℕ) (es : List Entry) (r : Option ℕ) → 0 < length es → let front = take (length es - 1) es in
+    MatchOption r (AllWithin (λ e. o.before e.bound key ≡ true) front 0 (length front)) (λ i. (i < length front) × HoldsAt (λ e. o.before e.bound key ≡ false) front i × AllWithin (λ e. o.before e.bound key ≡ true) front 0 i)
+    → unwrap_or r (length es - 1) ≡ search o key (bounds es)
+search_first o key es r some first =
+    let last = get_or es (length es - 1) (entry 0 (0, 0)) in
+    let front = take (length es - 1) es in
+    let more : (x : Entry) (xs : List Entry) → search o key (bounds ((x ∷ xs) ++ (last ∷ []))) ≡ cond (o.before x.bound key) (suc (search o key (bounds (xs ++ (last ∷ []))))) 0 = λ x xs.
+    cons_search o key x.bound (bounds (xs ++ (last ∷ []))) (simp (length-map, length-append) (omega arith)) in
+    let place = index_from_first (λ xs. search o key (bounds (xs ++ (last ∷ [])))) (λ e. o.before e.bound key ≡ false) (λ e. o.before e.bound key ≡ true) refl
+    (λ x xs yes. more x xs ∙ cond-false _ _ _ yes) (λ x xs no. more x xs ∙ cond-true _ _ _ no ∙ omega arith) front r first in
+    let all : front ++ (last ∷ []) ≡ es = sym (take_more es (length es - 1) (entry 0 (0, 0)) (omega arith)) ∙ take_all (length es - 1 + 1) es (omega arith) in
+    let long : length front ≡ length es - 1 = simp length-take (omega arith) in
+    sym (ap (λ xs. search o key (bounds xs)) (sym all) ∙ place ∙ ap (unwrap_or r) long)

@@ -21,9 +21,6 @@ module _ (gs : List (List Entry)) (p : Place) where
   pub within_of : Within gs p → within gs p ≡ true
   within_of w = and_from _ _ (lt-ltb _ _ w.0) (lt-ltb _ _ w.1)
 
-  pub no_group : length gs ≤ p.group → false ≡ within gs p
-  no_group h = ap (λ b. b && ltb p.slot (length (group_of gs p))) (sym (le-ltb _ _ h))
-
   pub in_its_group : {n : ℕ} → p.group < length gs → n ≡ length (group_of gs p) → ltb p.slot n ≡ within gs p
   in_its_group h e = ap (ltb p.slot) e ∙ ap (λ b. b && ltb p.slot (length (group_of gs p))) (sym (lt-ltb _ _ h))
 
@@ -99,9 +96,6 @@ module _ (gs : List (List Entry)) (p : Place) (w : Within gs p) where
 
   pub told_before : (q : Place) → Within gs q → position gs q + 1 ≡ position gs p → Some q ≡ place_before gs p
   told_before q v e = told_at gs q v (omega arith) ∙ sym (cond-true _ _ _ (lt-ltb 0 (position gs p) (omega arith))) ∙ sym (cond-true _ _ _ (within_of gs p w))
-
-  pub none_before : position gs p ≡ 0 → None ≡ place_before gs p
-  none_before e = sym (cond-false _ _ _ (le-ltb 0 (position gs p) (omega arith))) ∙ sym (cond-true _ _ _ (within_of gs p w))
 
 -- Two places, the second after the first.
 pub after_parts : (gs : List (List Entry)) (p q : Place) → place_after gs p ≡ Some q → Within gs p × Within gs q × (position gs q ≡ position gs p + 1)

@@ -26,7 +26,7 @@ pub struct Index {
 }
 
 // A leaf's place: its group, and its slot in the group.
-#[derive(Clone, Copy)]
+#[derive(Clone, Copy, PartialEq, Eq, Debug)]
 pub struct Place {
     pub group: usize,
     pub slot: usize,

@@ -14,11 +14,9 @@ pub(crate) fn search<K: Key>(entries: &[Entry], key: (u64, u64)) -> usize
     ensures within { result < length entries.now }
 {
     let last = entries.len() - 1;
-    for i in 0..last {
-        let bound = entries[i].bound;
-        if !K::pair_before(bound, key) {
-            return i;
-        }
-    }
-    last
+    let front = &entries[..last];
+    front
+        .iter()
+        .position(|e| !K::pair_before(e.bound, key))
+        .unwrap_or(last)
 }

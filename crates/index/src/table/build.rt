@@ -1,5 +1,5 @@
 // Building the index anew: each node from the list of leaves and bounds.
-ghost use Rattle.std.specs.Prelude.{◌≡◌, ◌<◌, ◌≤◌, [], map, length, slice_index_or};
+ghost use Rattle.std.specs.Prelude.{◌≡◌, ℕ, ◌*◌, ◌<◌, ◌≤◌, [], map, length, take, drop, slice_index_or};
 ghost use Rattle.index.specs.Nodes.{items, bounds};
 ghost use Rattle.index.specs.Search.{last};
 ghost use Rattle.index.specs.Shape.{numbered, rows, singles, table as table_node, lowest as lowest_of};
@@ -26,6 +26,13 @@ fn children(first: usize, entries: &[Entry]) -> Node
     Node { entries: children }
 }
 
+// Row q of nine entries.
+fn row(entries: &[Entry], q: usize) -> &[Entry]
+    ensures { result.now ≡ take 9 (drop (9 * q) entries.now) }
+{
+    entries.chunks(9).nth(q).unwrap_or(&[])
+}
+
 // The root over rows of nine entries.
 fn root(entries: &[Entry]) -> Node
     requires { length entries.now ≤ 81 }
@@ -42,6 +49,7 @@ fn root(entries: &[Entry]) -> Node
     Node { entries: children }
 }
 
+// Leaf i alone; no leaf past the last.
 fn single(entries: &[Entry], i: usize) -> Node
     ensures { items result ≡ slice_index_or (singles entries.now) i [] }
 {
@@ -64,6 +72,7 @@ pub(crate) fn lowest(used: usize) -> usize
     }
 }
 
+// Node i of an index of one leaf to a group.
 fn made(entries: &[Entry], i: usize) -> Node
     requires { length entries.now ≤ 81 }
     ensures { items result ≡ table_node (singles entries.now) i }
@@ -79,9 +88,16 @@ fn made(entries: &[Entry], i: usize) -> Node
     if i == 0 {
         return root(entries);
     }
-    let from = n.min(9 * i - 9);
-    let end = n.min(9 * i);
-    children(9 * i + 1, &entries[from..end])
+    children(9 * i + 1, row(entries, i - 1))
+}
+
+// All nodes of an index of one leaf to a group.
+fn table(entries: &[Entry]) -> [Node; 91]
+    requires { length entries.now ≤ 81 }
+    ensures long { length result ≡ 91 }
+    ensures each { (i : ℕ) → i < 91 → slice_index_or (map items result) i [] ≡ table_node (singles entries.now) i }
+{
+    array::from_fn(|i| made(entries, i))
 }
 
 // One leaf in each node of the lowest level.
@@ -92,6 +108,6 @@ pub(crate) fn built(entries: &[Entry]) -> Index
     Index {
         leaves: entries.len(),
         used: entries.len(),
-        nodes: array::from_fn(|i| made(entries, i)),
+        nodes: table(entries),
     }
 }

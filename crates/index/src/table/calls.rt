@@ -13,6 +13,7 @@ use super::build::built;
 use super::change::rename_in;
 use super::{Index, Place};
 use crate::node::Entry;
+use crate::node::search::search;
 use crate::record::NodeRecord;
 use keys::Key;
 use refusal::Refusal;
@@ -35,7 +36,9 @@ impl Index {
         ensures first { Ascending (in_words K.Key.kind) (front (bounds (listed self.now))) → First (in_words K.Key.kind) key (bounds (listed self.now)) (position (grouped self.now) result) }
         ensures only { (p : ℕ) → Ascending (in_words K.Key.kind) (front (bounds (listed self.now))) → First (in_words K.Key.kind) key (bounds (listed self.now)) p → position (grouped self.now) result ≡ p }
     {
-        self.walk::<K>(key)
+        let group = self.group_of::<K>(key);
+        let slot = search::<K>(self.groups()[group].entries.as_slice(), key);
+        Place { group, slot }
     }
 
     // The leaf at a place, with its bound.

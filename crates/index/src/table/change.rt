@@ -1,5 +1,5 @@
 // Changes of the index in place: only the node of the leaf changes.
-ghost use Rattle.std.specs.Prelude.{◌≡◌, ◌<◌, true, [], map, length, nat_lt, slice_index_or, slice_set};
+ghost use Rattle.std.specs.Prelude.{◌≡◌, ◌<◌, true, [], map, length, slice_index_or, slice_set};
 ghost use Rattle.index.specs.Nodes.{items, parted, renamed};
 ghost use Rattle.index.specs.Places.{within, group_of};
 ghost use Rattle.index.specs.Meaning.{grouped, listed, with_group, splits};
@@ -26,14 +26,6 @@ fn insert_in(nodes: &mut [Node], at: usize, slot: usize, left: Entry, right: usi
 }
 
 impl Index {
-    // Whether the node of the place has room for one leaf more.
-    pub(crate) fn has_room(&self, place: Place) -> bool
-        requires { within (grouped self.now) place ≡ true }
-        ensures { result ≡ nat_lt (length (group_of (grouped self.now) place)) 5 }
-    {
-        self.groups()[place.group].entries.len() < 5
-    }
-
     // Whether a leaf can be split: it is there, and there are fewer than 64.
     pub(crate) fn can_split(&self, place: Place) -> bool
         ensures { result ≡ splits (grouped self.now) place }

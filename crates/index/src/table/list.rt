@@ -1,5 +1,5 @@
 // All leaves in their order, and changes that build the index anew.
-ghost use Rattle.std.specs.Prelude.{◌≡◌, ◌<◌, ◌≤◌, true, [], length, Some, slice_index_or, slice_set};
+ghost use Rattle.std.specs.Prelude.{◌≡◌, ◌<◌, ◌≤◌, true, length, Some, slice_set};
 ghost use Rattle.index.specs.Nodes.{items, chained, parted, joined};
 ghost use Rattle.index.specs.Search.{concat};
 ghost use Rattle.index.specs.Keeping.{AscendsWith, AscendsStill};
@@ -44,11 +44,11 @@ impl Index {
         ensures list { listed self.new ≡ parted (listed self.old) (position (grouped self.old) place) left.to left.bound right }
         ensures ascends { AscendsWith (listed self.old) (position (grouped self.old) place) left.bound (listed self.new) }
     {
-        if self.has_room(place) {
+        let mut node = self.groups()[place.group];
+        if node.entries.len() < 5 {
             self.insert(place, left, right);
             return;
         }
-        let mut node = self.groups()[place.group];
         node.insert(place.slot, left, right);
         self.rebuild(place.group, &node);
     }

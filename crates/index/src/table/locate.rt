@@ -1,10 +1,10 @@
 // Locating a key: from the root down, one search in each node.
-ghost use Rattle.std.specs.Prelude.{◌≡◌, ℕ, ◌+◌, ◌<◌, true, [], map, length, slice_index_or};
+ghost use Rattle.std.specs.Prelude.{◌≡◌, ◌+◌, ◌<◌, map, length};
 ghost use Rattle.keys.specs.InWords.{in_words};
 ghost use Rattle.index.specs.Nodes.{items, bounds};
-ghost use Rattle.index.specs.Search.{search as place_of, front, Ascending, First};
-ghost use Rattle.index.specs.Shape.{table as table_node, lowest as lowest_of};
-ghost use Rattle.index.specs.Places.{within, position};
+ghost use Rattle.index.specs.Search.{search as place_of, front, Ascending};
+ghost use Rattle.index.specs.Shape.{table as table_node, lowest as lowest_of, lasts};
+ghost use Rattle.index.specs.Places.{within};
 ghost use Rattle.index.specs.Meaning.{grouped, listed};
 
 use super::build::lowest;
@@ -46,36 +46,24 @@ impl Index {
         requires { (at < 91) × (0 < length (table_node (grouped self.now) at)) }
         ensures place { result ≡ place_of (in_words K.Key.kind) key (bounds (table_node (grouped self.now) at)) }
         ensures within { result < length (table_node (grouped self.now) at) }
+        ensures small { result < 9 }
     {
         search::<K>(self.nodes[at].entries.as_slice(), key)
     }
 
-    fn in_group<K: Key>(&self, group: usize, key: (u64, u64)) -> Place
-        requires { group < length (grouped self.now) }
-        ensures group { result.group ≡ group }
-        ensures slot { result.slot ≡ place_of (in_words K.Key.kind) key (bounds (slice_index_or (grouped self.now) result.group [])) }
-        ensures within { within (grouped self.now) result ≡ true }
-    {
-        let slot = search::<K>(self.groups()[group].entries.as_slice(), key);
-        Place { group, slot }
-    }
-
-    // From the root down to the leaf of a key, by one node on each level.
-    pub(crate) fn walk<K: Key>(&self, key: (u64, u64)) -> Place
-        ensures within { within (grouped self.now) result ≡ true }
-        ensures place { Ascending (in_words K.Key.kind) (front (bounds (listed self.now))) → position (grouped self.now) result ≡ place_of (in_words K.Key.kind) key (bounds (listed self.now)) }
-        ensures first { Ascending (in_words K.Key.kind) (front (bounds (listed self.now))) → First (in_words K.Key.kind) key (bounds (listed self.now)) (position (grouped self.now) result) }
-        ensures only { (p : ℕ) → Ascending (in_words K.Key.kind) (front (bounds (listed self.now))) → First (in_words K.Key.kind) key (bounds (listed self.now)) p → position (grouped self.now) result ≡ p }
+    // The group that a key belongs to, by one node on each level above the groups.
+    pub(crate) fn group_of<K: Key>(&self, key: (u64, u64)) -> usize
+        ensures within { result < length (grouped self.now) }
+        ensures group { Ascending (in_words K.Key.kind) (front (bounds (listed self.now))) → result ≡ place_of (in_words K.Key.kind) key (lasts (grouped self.now)) }
     {
         if self.used <= 1 {
-            return self.in_group::<K>(0, key);
-        }
-        if self.used <= 9 {
-            let group = self.entry_at::<K>(0, key);
-            return self.in_group::<K>(group, key);
+            return 0;
         }
         let row = self.entry_at::<K>(0, key);
+        if self.used <= 9 {
+            return row;
+        }
         let column = self.entry_at::<K>(1 + row, key);
-        self.in_group::<K>(9 * row + column, key)
+        9 * row + column
     }
 }

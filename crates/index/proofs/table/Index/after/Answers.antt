@@ -14,8 +14,9 @@ returns-then-place-len-2 c =
     let below : p.group < length nodes = search rules in
     let is : node ≡ get_or nodes p.group node = search rules in
     let many = group_count nodes gs c.groups-groups.ensures in
-    let count = c.len-len.ensures.value ∙ ap length (node_group nodes gs p.group node node c.groups-groups.ensures below is) in
-    next_slot gs p (omega (arith, many, below)) count c.if-place-len.false c.if-place-len-2.true
+    let h : p.group < length gs = omega arith in
+    let count = c.len-len.ensures.value ∙ ap length (node_group nodes gs p.group node node c.groups-groups.ensures h is) in
+    next_slot gs p h count c.if-place-len.false c.if-place-len-2.true
 
 pub returns-then-place-groups : goal.returns-then-place-groups
 unfolding grouped
@@ -28,8 +29,9 @@ returns-then-place-groups c =
     let below : p.group < length nodes = search rules in
     let is : node ≡ get_or nodes p.group node = search rules in
     let many = group_count nodes gs c.groups-groups.ensures in
-    let count = c.len-len.ensures.value ∙ ap length (node_group nodes gs p.group node node c.groups-groups.ensures below is) in
-    next_group gs p (omega (arith, many, below)) count c.if-place-len.false x.full c.if-place-len-2.false (omega (arith, many, c.if-place-groups.true))
+    let h : p.group < length gs = omega arith in
+    let count = c.len-len.ensures.value ∙ ap length (node_group nodes gs p.group node node c.groups-groups.ensures h is) in
+    next_group gs p h count c.if-place-len.false x.full c.if-place-len-2.false (omega arith)
 
 pub returns : goal.returns
 returns c =
@@ -41,5 +43,6 @@ returns c =
     let below : p.group < length nodes = search rules in
     let is : node ≡ get_or nodes p.group node = search rules in
     let many = group_count nodes gs c.groups-groups.ensures in
-    let count = c.len-len.ensures.value ∙ ap length (node_group nodes gs p.group node node c.groups-groups.ensures below is) in
-    no_next gs p (omega (arith, many, below)) count c.if-place-len.false c.if-place-len-2.false (omega (arith, many, c.if-place-groups.false))
+    let h : p.group < length gs = omega arith in
+    let count = c.len-len.ensures.value ∙ ap length (node_group nodes gs p.group node node c.groups-groups.ensures h is) in
+    no_next gs p h count c.if-place-len.false c.if-place-len-2.false (omega arith)

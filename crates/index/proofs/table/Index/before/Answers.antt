@@ -1,7 +1,7 @@
 use Rattle.std.proofs.Common.{◌≡◌, ◌+◌, ◌<◌, true, length, get_or, refl, ap, ◌∙◌, arith, rules}
 use Rattle.index.specs.Places.{within}
 use Rattle.index.specs.Meaning.{grouped}
-use Rattle.index.proofs.ChangeLaws.{group_count, node_group}
+use Rattle.index.proofs.ChangeLaws.{node_group}
 use Rattle.index.proofs.ListLaws.{last_slot, last_group}
 use Rattle.index.proofs.PlaceLaws.{within_parts}
 use Rattle.index.proofs.table.Index.before.Goals as goal
@@ -22,7 +22,7 @@ overflow_sub-result-2 c =
     let w = within_parts gs c.args.place t in
     let below : g < length gs = omega arith in
     let nodes = c.groups.result.now in
-    let count = c.len.ensures.value ∙ ap length (node_group nodes gs g c.index-groups-group.result (get_or nodes g c.index-groups-group.result) c.groups.ensures (omega (arith, group_count nodes gs c.groups.ensures)) refl) in
+    let count = c.len.ensures.value ∙ ap length (node_group nodes gs g c.index-groups-group.result (get_or nodes g c.index-groups-group.result) c.groups.ensures below refl) in
     omega (arith, count, x.full g below)
 
 pub returns : goal.returns
@@ -36,5 +36,5 @@ returns c =
     let w = within_parts gs c.args.place t in
     let below : g < length gs = omega arith in
     let nodes = c.groups.result.now in
-    let count = c.len.ensures.value ∙ ap length (node_group nodes gs g c.index-groups-group.result (get_or nodes g c.index-groups-group.result) c.groups.ensures (omega (arith, group_count nodes gs c.groups.ensures)) refl) in
+    let count = c.len.ensures.value ∙ ap length (node_group nodes gs g c.index-groups-group.result (get_or nodes g c.index-groups-group.result) c.groups.ensures below refl) in
     last_group gs c.args.place t g e (omega (arith, c.if-place-gt0.false)) count (omega (arith, count, x.full g below))

@@ -12,6 +12,6 @@ returns c =
     let node = c.in_ok-node.node.now in
     let below : p.group < length nodes = search rules in
     let is : node ≡ get_or nodes p.group node = search rules in
+    let h : p.group < length gs = omega (arith, group_count nodes gs c.groups.ensures, below) in
     let item = c.get-2.ensures.lookup in
-    c.copied.ensures ∙ item_is c.as_slice.result.now p.slot c.get-2.result item.0 item.1
-    ∙ leaf_is gs p (omega (arith, group_count nodes gs c.groups.ensures, below)) (c.as_slice.ensures.value ∙ node_group nodes gs p.group node node c.groups.ensures below is)
+    c.copied.ensures ∙ item_is c.as_slice.result.now p.slot c.get-2.result item.0 item.1 ∙ leaf_is gs p h (c.as_slice.ensures.value ∙ node_group nodes gs p.group node node c.groups.ensures h is)

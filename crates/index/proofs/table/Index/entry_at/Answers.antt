@@ -17,4 +17,5 @@ returns g c =
     record {
       place = c.search.ensures.place ∙ ap (λ es. search (in_words g.K.Key.kind) c.args.key (bounds es)) same;
       within = omega (arith, c.search.ensures.within, ap length same);
+      small = omega (arith, c.search.ensures.within, c.as_slice.ensures.fits);
     }
