@@ -1,7 +1,7 @@
 -- One step of each walk of opening.
-use Rattle.std.proofs.Common.{◌≡◌, ℕ, zero, suc, ◌+◌, ◌-◌, ◌<◌, ◌≤◌, Bool, true, false, ◌&&◌, ◌||◌, eqb, ltb, List, [], ◌∷◌, ◌++◌, length, Some, None, Ok, Err, Option, Result, ◌⊎◌, sym, refl, ap, ◌∙◌, ⊎_elim, arith}
+use Rattle.std.proofs.Common.{◌≡◌, ℕ, zero, suc, ◌+◌, ◌-◌, ◌<◌, Bool, true, false, ◌&&◌, ◌||◌, eqb, ltb, List, [], ◌∷◌, ◌++◌, length, Some, None, Ok, Err, Option, Result, ◌⊎◌, sym, refl, ap, ◌∙◌, ⊎_elim, arith}
 use Rattle.std.specs.List.{list_any}
-use Rattle.std.proofs.lemmas.Bool.{eq-eqb, ne_eqb, le-ltb, or_from, cond-true, cond-false}
+use Rattle.std.proofs.lemmas.Bool.{eq-eqb, ne_eqb, cond-true, cond-false}
 use Rattle.std.proofs.lemmas.Bool.Decides.{nat_tests}
 use Rattle.std.proofs.lemmas.List.{length_push}
 use Rattle.keys.specs.InWords.{WordKind}
@@ -37,7 +37,7 @@ module _ (o : WordKind) (m : List ℕ) where
 -- The same where the walk goes on, from what is known of it: `rest` is what remains of the answer `all`.
 module _ (o : WordKind) (m : List ℕ) (leaves : ℕ) (used : List ℕ) (bound : Option (ℕ × ℕ)) (from link : ℕ) {all : Result (List ℕ) Fault}
     (rest : walk o m (leaves - 1 - length used) used bound from link ≡ all) where
-  module _ (some : link ≡ 0 → ⊥) (is : leaves ≡ word m 3) (spare : length used + 1 < leaves) (near : link ≤ leaves) (once : list_any (λ y. eqb y link) used ≡ false) {b : List ℕ} {next : ℕ} {alone : Bool}
+  module _ (some : link ≡ 0 → ⊥) (spare : length used + 1 < leaves) (fine : (ltb (word m 3) link || list_any (λ y. eqb y link) used) ≡ false) {b : List ℕ} {next : ℕ} {alone : Bool}
       (same : b ≡ m) (follows : next ≡ next_of m link) (lone : alone ≡ (eqb from 0 && eqb next 0)) where
     next_walk : Result (List ℕ) Fault
     next_walk = walk o m (leaves - 1 - (length used + 1)) (used ++ (link ∷ [])) (greatest o m link (count_of m link)) link (next_of m link)
@@ -46,9 +46,7 @@ module _ (o : WordKind) (m : List ℕ) (leaves : ℕ) (used : List ℕ) (bound :
     unfolding next_walk
     checked_here =
         let more : leaves - 1 - length used ≡ suc (leaves - 1 - (length used + 1)) = omega arith in
-        let e = ne_eqb link 0 some in
-        let f = or_from _ _ (le-ltb (word m 3) link (omega arith)) (sym (member_is link used) ∙ once) in
-        rw (lone, follows) (sym (cond-false (eqb link 0) _ _ e ∙ cond-false _ _ _ f) ∙ rw more at rest)
+        rw (lone, follows) (sym (cond-false (eqb link 0) _ _ (ne_eqb link 0 some) ∙ cond-false _ _ _ (rw (member_is link used) at fine)) ∙ rw more at rest)
 
     pub fault_here : {e : Fault} → Err e ≡ checked link (leaf_fault o b bound alone link) (Ok (greatest o b link (count_of b link))) → Err e ≡ all
     fault_here h = sym (checked_err link (leaf_fault o m bound alone link) (greatest o m link (count_of m link)) next_walk (sym (rw same at h))) ∙ checked_here

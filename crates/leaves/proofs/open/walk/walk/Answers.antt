@@ -1,6 +1,5 @@
 use Rattle.keys.specs.InWords.{in_words}
-use Rattle.std.proofs.Common.{eqb, [], ◌∷◌, length, sym, ap, ◌∙◌, inl, inr, ◌-◌, arith}
-use Rattle.std.specs.List.{list_any}
+use Rattle.std.proofs.Common.{[], ◌∷◌, length, sym, ap, ◌∙◌, inl, inr, ◌-◌, arith}
 use Rattle.std.proofs.lemmas.List.{length_push}
 use Rattle.std.proofs.lemmas.Result.{err_from_is_err_and}
 use Rattle.leaves.specs.Layout.{next_of}
@@ -27,8 +26,7 @@ returns-in_err-bound-clause-value g c =
     let l = c.loop-link in
     let p = err_from_is_err_and c.from_residual.result c.from_residual.ensures.1 in
     rw (p.1, p.2)
-    (fault_here (in_words g.K.Key.kind) (g.M.Memory.meaning c.args.memory.now).live c.args.leaves (leaves_of l.chain) l.bound l.from l.link l.invariant.2 c.loop-link-test.true c.requires.0 (omega arith) c.if-leaf-leaves.false
-    (sym (c.contains.ensures.value ∙ ap (list_any (λ y. eqb y l.link)) c.as_slice.ensures.value) ∙ c.if-contains.false)
+    (fault_here (in_words g.K.Key.kind) (g.M.Memory.meaning c.args.memory.now).live c.args.leaves (leaves_of l.chain) l.bound l.from l.link l.invariant.2 c.loop-link-test.true (omega arith) (grind (arith, nat_tests))
     (live_same (c.word_at-next.ensures.same ∙ l.invariant.0)) (c.word_at-next.ensures.value ∙ ap (λ ws. next_of ws l.link) (live_same l.invariant.0)) c.eq-alone.ensures c.in_err-bound.ensures.value)
 
 pub loop-link-preserved : goal.loop-link-preserved
@@ -38,8 +36,7 @@ loop-link-preserved g c =
     let more = c.push.ensures.list ∙ joined_all 64 used (l.link ∷ []) (omega (arith, length_push used l.link)) in (
       c.check.ensures.same ∙ c.word_at-next.ensures.same ∙ l.invariant.0,
       omega (arith, ap length more, length_push used l.link),
-      on_here (in_words g.K.Key.kind) (g.M.Memory.meaning c.args.memory.now).live c.args.leaves used l.bound l.from l.link l.invariant.2 c.loop-link-test.true c.requires.0 (omega arith) c.if-leaf-leaves.false
-          (sym (c.contains.ensures.value ∙ ap (list_any (λ y. eqb y l.link)) c.as_slice.ensures.value) ∙ c.if-contains.false)
+      on_here (in_words g.K.Key.kind) (g.M.Memory.meaning c.args.memory.now).live c.args.leaves used l.bound l.from l.link l.invariant.2 c.loop-link-test.true (omega arith) (grind (arith, nat_tests))
           (live_same (c.word_at-next.ensures.same ∙ l.invariant.0)) (c.word_at-next.ensures.value ∙ ap (λ ws. next_of ws l.link) (live_same l.invariant.0)) c.eq-alone.ensures c.in_ok-bound.ensures.value more,
     )
 
