@@ -1,6 +1,6 @@
 -- The pairs of a memory that opens ascend from leaf to leaf.
 use Rattle.std.proofs.Common.{◌≡◌, ℕ, zero, suc, ◌+◌, ◌-◌, ◌*◌, ◌<◌, ◌≤◌, Bool, true, false, cond, not, ◌&&◌, ◌||◌, eqb, ltb, leb, ◌⊎◌, List, [], ◌∷◌, ◌++◌, length, IfOk, Some, None, Ok, Err, Option, Result, sym, refl, ap, ◌∙◌, inl, inr, ⊎_elim, append_assoc, append-nil, arith}
-use Rattle.std.proofs.lemmas.Bool.{cases_Bool, cases_eq, cond-true, cond-false, cond_both, and_parts, or_cases, ltb-true, eqb-true, both_ways, eq-eqb}
+use Rattle.std.proofs.lemmas.Bool.{cases_Bool, cases_eq, cond-true, cond-false, cond_both, and_parts, or_cases, ltb-true, eqb-true, both_ways}
 use Rattle.fixed_vec.specs.declared.FixedVec.{FixedVec}
 use Rattle.keys.specs.InWords.{WordKind, WordOrdered}
 use Rattle.leaves.specs.declared.leaf.Element.{Element}
@@ -12,6 +12,7 @@ use Rattle.leaves.specs.Layout.{word, element, next_of, count_of, form_of}
 use Rattle.leaves.specs.Pairs.{pairs}
 use Rattle.leaves.specs.Opening.{after, good, first_bad, leaf_fault, later, greatest, member, ended, checked, walk, leaves_of, told, open_answer}
 use Rattle.leaves.specs.Ascent.{Each, Ascending, all_pairs, chain}
+use Rattle.leaves.proofs.OpeningLaws.{walk_ended}
 use Rattle.leaves.proofs.AscentLaws.{each_pairs, each_map, ascending_pairs}
 
 pub some_none : {A B : Type 0} {x : A} {r : Option A} → r ≡ Some x → r ≡ None → B
@@ -126,10 +127,6 @@ module _ (o : WordKind) (ordered : WordOrdered o) (m : List ℕ) where
   past true e x ks h = err_ok refl h
   past false e x ks h = h
 
-  walk_ended : (n : ℕ) (used : List ℕ) (bound : Option (ℕ × ℕ)) (from link : ℕ) → link ≡ 0 → walk o m n used bound from link ≡ ended from used
-  walk_ended zero used bound from link z = cond-true _ _ _ (eq-eqb link 0 z)
-  walk_ended (suc n) used bound from link z = cond-true _ _ _ (eq-eqb link 0 z)
-
   joined : (used : List ℕ) (bound : Option (ℕ × ℕ)) (l : ℕ) (ks rest : List ℕ) → first_bad o m bound l 0 (count_of m l) ≡ None → ks ≡ (used ++ (l ∷ [])) ++ rest → Ascending o (all_pairs o m rest) → Each (λ k. after o (greatest o m l (count_of m l)) k ≡ true) (all_pairs o m rest) → Each (λ k. after o bound k ≡ true) (all_pairs o m rest) → Found used bound ks
   unfolding Found
   joined used bound l ks rest fine e up top more =
@@ -154,7 +151,7 @@ module _ (o : WordKind) (ordered : WordOrdered o) (m : List ℕ) where
             ⊎_elim
             (λ alone.
             let z : next_of m link ≡ 0 = eqb-true (next_of m link) 0 (and_parts (eqb from 0) _ alone).1 in
-            let end = walk_ended n (used ++ (link ∷ [])) (greatest o m link (count_of m link)) link (next_of m link) z in
+            let end = walk_ended o m n (used ++ (link ∷ [])) (greatest o m link (count_of m link)) link (next_of m link) z in
             joined used bound link ks [] fine (ended_is link (used ++ (link ∷ [])) ks (sym end ∙ e)) tt tt tt)
             (λ some.
             let (rest, is-rest, up, top) = go e in
