@@ -9,7 +9,7 @@ use Rattle.keys.specs.InWords.{WordKind, WordOrdered}
 use Rattle.leaves.specs.declared.leaf.Element.{Element}
 use Rattle.leaves.specs.Layout.{element, elements}
 use Rattle.leaves.specs.Pairs.{equal, lookup, held, applied, folded, latest, pairs}
-use Rattle.leaves.specs.Opening.{good, first_bad, first_wrong, later, greatest, greatest_key}
+use Rattle.leaves.specs.Opening.{good, first_bad, first_bad_of, later, greatest, greatest_key}
 use Rattle.leaves.proofs.PairLaws.{lookup_applied}
 use Rattle.leaves.proofs.RunLaws.{joined_all}
 
@@ -28,20 +28,20 @@ module _ (o : WordKind) where
       ap (applied o (element m k n)) (pairs_folded m k n) ∙ sym (fold_push (λ ps e. applied o e ps) [] (elements m k n) (element m k n)) ∙ ap (folded o []) (sym (elements_more m k n))
 
   -- the first bad slot, from slot s on
-  pub wrong_from : (m : List ℕ) (bound : Option (ℕ × ℕ)) (k s n : ℕ) → first_bad o m bound k s n ≡ first_wrong o bound (pairs o m k s) s (map (element m k) (range_with_len s n))
-  wrong_from m bound k s zero = refl
-  wrong_from m bound k s (suc n) =
+  pub bad_from : (m : List ℕ) (bound : Option (ℕ × ℕ)) (k s n : ℕ) → first_bad o m bound k s n ≡ first_bad_of o bound (pairs o m k s) s (map (element m k) (range_with_len s n))
+  bad_from m bound k s zero = refl
+  bad_from m bound k s (suc n) =
       let e : s + 1 ≡ suc s = omega arith in
       let next : pairs o m k (s + 1) ≡ applied o (element m k s) (pairs o m k s) = ap (pairs o m k) e in
       ap (λ r. cond (good o bound (pairs o m k s) (element m k s)) r (Some (s + 1)))
-      (wrong_from m bound k (s + 1) n ∙ ap (λ ps. first_wrong o bound ps (s + 1) (map (element m k) (range_with_len (s + 1) n))) next)
+      (bad_from m bound k (s + 1) n ∙ ap (λ ps. first_bad_of o bound ps (s + 1) (map (element m k) (range_with_len (s + 1) n))) next)
 
   -- one turn of looking for the first bad element
-  pub wrong_turn : (bound : Option (ℕ × ℕ)) (es : List Element) (i : ℕ) (d : Element) → i < length es
-      → first_wrong o bound (folded o [] (take i es)) i (drop i es) ≡ cond (good o bound (folded o [] (take i es)) (get_or es i d)) (first_wrong o bound (folded o [] (take (i + 1) es)) (i + 1) (drop (i + 1) es)) (Some (i + 1))
-  wrong_turn bound es i d h =
-      ap (first_wrong o bound (folded o [] (take i es)) i) (drop_more es i d h)
-      ∙ ap (λ ps. cond (good o bound (folded o [] (take i es)) (get_or es i d)) (first_wrong o bound ps (i + 1) (drop (i + 1) es)) (Some (i + 1))) (sym (fold_more (λ ps e. applied o e ps) [] es i d h))
+  pub bad_turn : (bound : Option (ℕ × ℕ)) (es : List Element) (i : ℕ) (d : Element) → i < length es
+      → first_bad_of o bound (folded o [] (take i es)) i (drop i es) ≡ cond (good o bound (folded o [] (take i es)) (get_or es i d)) (first_bad_of o bound (folded o [] (take (i + 1) es)) (i + 1) (drop (i + 1) es)) (Some (i + 1))
+  bad_turn bound es i d h =
+      ap (first_bad_of o bound (folded o [] (take i es)) i) (drop_more es i d h)
+      ∙ ap (λ ps. cond (good o bound (folded o [] (take i es)) (get_or es i d)) (first_bad_of o bound ps (i + 1) (drop (i + 1) es)) (Some (i + 1))) (sym (fold_more (λ ps e. applied o e ps) [] es i d h))
 
   key_push : (es : List Element) (e : Element) → greatest_key o (es ++ e ∷ []) ≡ Some (later o e.key (greatest_key o es))
   key_push [] e = refl

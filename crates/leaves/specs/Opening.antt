@@ -42,9 +42,9 @@ first_bad o m bound k s (suc n) =
     cond (good o bound (pairs o m k s) (element m k s)) (first_bad o m bound k (s + 1) n) (Some (s + 1))
 
 -- The first bad one of some elements after older ones, of which there are s that come to these pairs.
-abbrev pub first_wrong : WordKind → Option (ℕ × ℕ) → List Pair → ℕ → List Element → Option ℕ
-first_wrong o bound ps s [] = None
-first_wrong o bound ps s (e ∷ es) = cond (good o bound ps e) (first_wrong o bound (applied o e ps) (s + 1) es) (Some (s + 1))
+abbrev pub first_bad_of : WordKind → Option (ℕ × ℕ) → List Pair → ℕ → List Element → Option ℕ
+first_bad_of o bound ps s [] = None
+first_bad_of o bound ps s (e ∷ es) = cond (good o bound ps e) (first_bad_of o bound (applied o e ps) (s + 1) es) (Some (s + 1))
 
 abbrev pub leaf_fault : WordKind → List ℕ → Option (ℕ × ℕ) → Bool → ℕ → Option ℕ
 leaf_fault o m bound alone k =

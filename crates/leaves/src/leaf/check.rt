@@ -3,7 +3,7 @@ ghost use Rattle.std.specs.Prelude.{◌≡◌, ◌&&◌, ◌||◌, ◌==◌, [],
 ghost use Rattle.keys.specs.InWords.{in_words};
 ghost use Rattle.leaves.specs.Layout.{Within, count_of};
 ghost use Rattle.leaves.specs.Pairs.{folded};
-ghost use Rattle.leaves.specs.Opening.{sign_fits, after as after_bound, bad_leaf_of, good as good_element, first_wrong, leaf_fault, checked, greatest as greatest_of, greatest_key};
+ghost use Rattle.leaves.specs.Opening.{sign_fits, after as after_bound, bad_leaf_of, good as good_element, first_bad_of, leaf_fault, checked, greatest as greatest_of, greatest_key};
 
 use super::Element;
 use crate::leaf::read::{elements, find, word_at};
@@ -68,7 +68,7 @@ fn check_elements<K: Key>(
     elements: &[Element],
     bound: Option<(u64, u64)>,
 ) -> Result<Option<(u64, u64)>, Fault>
-    ensures { result ≡ checked leaf (first_wrong (in_words K.Key.kind) bound [] 0 elements.now) (Ok (greatest_key (in_words K.Key.kind) elements.now)) }
+    ensures { result ≡ checked leaf (first_bad_of (in_words K.Key.kind) bound [] 0 elements.now) (Ok (greatest_key (in_words K.Key.kind) elements.now)) }
 {
     for (slot, e) in elements.iter().enumerate() {
         if !good::<K>(&elements[..slot], *e, bound) {

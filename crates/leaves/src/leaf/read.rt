@@ -33,7 +33,7 @@ fn element<M: Memory>(memory: &mut M, leaf: usize, slot: usize) -> Element
     }
 }
 
-// The oldest `count` elements of the leaf.
+// The oldest `count` elements of the leaf, which are at most 16 and so have room.
 pub(crate) fn elements<M: Memory>(memory: &mut M, leaf: usize, count: usize) -> Elements
     requires { (Within (M.Memory.meaning memory.old).live leaf) × (count ≤ 16) }
     ensures same { M.Memory.meaning memory.new ≡ M.Memory.meaning memory.old }

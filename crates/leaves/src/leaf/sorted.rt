@@ -8,6 +8,7 @@ ghost use Rattle.leaves.specs.Pairs.{insert, delete, applied as applied_to, fold
 use super::{Element, Elements, Pair, Run};
 use keys::Key;
 
+// No pairs yet. A leaf's 16 elements come to at most 16 pairs, so what is pushed onto a run always has room.
 fn empty() -> Run
     ensures { items result ≡ [] }
 {

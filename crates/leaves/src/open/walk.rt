@@ -34,6 +34,7 @@ fn walk<K: Key, M: Memory>(memory: &mut M, leaves: usize, first: u64) -> Result<
         let next = word_at(memory, 8 + 72 * (leaf - 1));
         let alone = (from, next) == (0, 0);
         bound = check::<K, M>(memory, leaf, bound, alone)?;
+        // there is room, since one of at most 64 leaves stays free
         let _ = chain.push(leaf);
         from = leaf;
         link = next;
