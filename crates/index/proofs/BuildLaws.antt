@@ -12,7 +12,7 @@ use Rattle.index.specs.declared.node.Node.{Node}
 use Rattle.fixed_vec.specs.Items.{joined}
 use Rattle.index.specs.Nodes.{items, bounds, entry}
 use Rattle.index.specs.Search.{concat, last, Full, Small}
-use Rattle.index.proofs.NodeLaws.{fits}
+use Rattle.fixed_vec.proofs.Rooms.{joined_all}
 use Rattle.index.specs.Shape.{numbered, rows, singles, lasts, table, upper, lowest, same, groups, Sound}
 
 pub length_numbered : (n : ℕ) (bs : List (ℕ × ℕ)) → length (numbered n bs) ≡ length bs
@@ -28,7 +28,7 @@ pub children_turn : (n : ℕ) (es : List Entry) (i : ℕ) (d : Entry) {out more 
     → more ≡ joined 9 out (entry (n + i) (get_or es i d).bound ∷ []) → (more ≡ numbered n (bounds (take (i + 1) es))) × (length more ≡ i + 1)
 children_turn n es i d {out} {more} h k is long push =
     let b = (get_or es i d).bound in
-    let added : more ≡ out ++ (entry (n + i) b ∷ []) = push ∙ fits 9 out (entry (n + i) b ∷ []) (omega arith) in
+    let added : more ≡ out ++ (entry (n + i) b ∷ []) = push ∙ joined_all 9 out (entry (n + i) b ∷ []) (omega arith) in
     let at : length (bounds (take i es)) ≡ i = sym (length_numbered n (bounds (take i es))) ∙ sym (ap length is) ∙ long in
     let same : numbered n (bounds (take (i + 1) es)) ≡ numbered n (bounds (take i es)) ++ (entry (n + i) b ∷ []) =
     ap (numbered n) (map_more (λ (e : Entry). e.bound) es i d h) ∙ rw at at (numbered_more n (bounds (take i es)) b) in
@@ -83,7 +83,7 @@ root_turn q d rest row more out {out'} {all} e n h room long so push =
     let next : rows (suc (9 - (q + 1))) (bounds rest) ≡ bounds row ∷ rows (9 - (q + 1)) (bounds more) = rows_next (9 - (q + 1)) (bounds rest) (bounds row) (bounds more) bounds_parts (omega arith) (omega arith) in
     let bound : last (bounds row) ≡ b = last_at (bounds row) (omega arith) ∙ rw few (get_or-map (λ (x : Entry). x.bound) row (length row - 1) d (0, 0) (omega arith)) in
     let was : numbered (1 + q) (map last (rows (9 - q) (bounds rest))) ≡ entry (1 + q) b ∷ numbered (1 + (q + 1)) (map last (rows (9 - (q + 1)) (bounds more))) = rw (fuel, next, bound, number) in
-    let added : out' ≡ out ++ (entry (1 + q) b ∷ []) = push ∙ fits 9 out (entry (1 + q) b ∷ []) (omega arith) in
+    let added : out' ≡ out ++ (entry (1 + q) b ∷ []) = push ∙ joined_all 9 out (entry (1 + q) b ∷ []) (omega arith) in
     (rw added (append_assoc out _ _ ∙ ap (λ xs. out ++ xs) (sym was) ∙ so), omega (arith, simp length-append at (ap length added)), omega arith)
 
 pub root_end : (q : ℕ) (rest out : List Entry) {all : List Entry} → length rest ≡ 0 → out ++ numbered (1 + q) (map last (rows (9 - q) (bounds rest))) ≡ all → out ≡ all

@@ -1,20 +1,15 @@
 -- Filling and searching one node.
-use Rattle.std.proofs.Common.{◌≡◌, ℕ, zero, suc, ◌+◌, ◌-◌, ◌<◌, ◌≤◌, true, false, cond, Option, List, [], ◌∷◌, ◌++◌, length, get_or, take, take_all, drop, set, sym, refl, ap, ◌∙◌, arith, length-append, length-take}
+use Rattle.std.proofs.Common.{◌≡◌, ℕ, zero, suc, ◌+◌, ◌-◌, ◌<◌, true, false, cond, Option, List, [], ◌∷◌, ◌++◌, length, get_or, take, take_all, drop, set, sym, refl, ap, ◌∙◌, arith, length-append, length-take}
 use lib.ListN.{length-map}
 use Rattle.std.proofs.lemmas.List.{take_more}
 use Rattle.std.proofs.lemmas.Iterator.{index_from_first}
 use Rattle.std.specs.List.{AllWithin, HoldsAt}
 use Rattle.std.specs.Option.{MatchOption, unwrap_or}
-use Rattle.std.proofs.lemmas.Bool.{cond-true, cond-false, le-leb}
+use Rattle.std.proofs.lemmas.Bool.{cond-true, cond-false}
 use Rattle.keys.specs.InWords.{WordKind}
 use Rattle.index.specs.declared.node.Entry.{Entry}
-use Rattle.fixed_vec.specs.Items.{joined}
 use Rattle.index.specs.Nodes.{bounds, entry, parted, renamed}
 use Rattle.index.specs.Search.{search}
-
--- What a list in an array has after more where there is room.
-pub fits : {X : Type 0} (n : ℕ) (xs more : List X) → length xs + length more ≤ n → joined n xs more ≡ xs ++ more
-fits n xs more h = cond-true _ _ _ (le-leb (length xs + length more) n h)
 
 -- Another leaf in the place of one.
 pub renamed_at : (es : List Entry) (s leaf : ℕ) (d : Entry) → s < length es → renamed es s leaf ≡ set es s (entry leaf (get_or es s d).bound)

@@ -11,10 +11,13 @@ use Rattle.leaves.specs.Layout.{element, elements}
 use Rattle.leaves.specs.Pairs.{equal, lookup, held, applied, folded, latest, pairs}
 use Rattle.leaves.specs.Opening.{good, first_bad, first_bad_of, later, greatest, greatest_key}
 use Rattle.leaves.proofs.PairLaws.{lookup_applied}
-use Rattle.leaves.proofs.RunLaws.{joined_all}
+use Rattle.fixed_vec.proofs.Rooms.{joined_all}
 
 elements_more : (m : List ℕ) (k n : ℕ) → elements m k (suc n) ≡ elements m k n ++ element m k n ∷ []
 elements_more m k n = let e : suc n ≡ n + 1 = omega arith in ap (elements m k) e ∙ map-range_with_len_more (element m k) 0 n n (omega arith)
+
+pub length_elements : (m : List ℕ) (k n : ℕ) → length (elements m k n) ≡ n
+length_elements m k n = length-map-range_with_len (element m k) 0 n
 
 pub elements_joined : (m : List ℕ) (k s : ℕ) → s < 16 → joined 16 (elements m k s) (element m k s ∷ []) ≡ elements m k (s + 1)
 elements_joined m k s h =

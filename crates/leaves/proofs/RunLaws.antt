@@ -1,8 +1,8 @@
 -- Building a run from another.
 use Rattle.std.proofs.Common.{◌≡◌, ℕ, suc, ◌+◌, ◌≤◌, true, false, cond, List, [], ◌∷◌, ◌++◌, length, take, drop, sym, refl, ap, ◌∙◌, append_assoc, length-append, length-take, length-drop, arith}
 use Rattle.std.proofs.lemmas.List.Sums.{prefix_len-le-length}
-use Rattle.std.proofs.lemmas.Bool.Decides.{nat_tests}
 use Rattle.fixed_vec.specs.Items.{joined}
+use Rattle.fixed_vec.proofs.Rooms.{joined_all}
 use Rattle.std.specs.List.{prefix_len}
 use Rattle.keys.specs.InWords.{WordKind}
 use Rattle.leaves.specs.declared.leaf.Pair.{Pair}
@@ -27,10 +27,6 @@ length_applied o e ps = let i = length_insert o (record { key = e.key; reading =
 pub length_folded : (o : WordKind) (ps : List Pair) (es : List Element) → length (folded o ps es) ≤ length ps + length es
 length_folded o ps [] = omega arith
 length_folded o ps (e ∷ es) = let a = length_applied o e ps in let ih = length_folded o (applied o e ps) es in omega arith
-
--- where there is room, what is joined is all of it
-pub joined_all : {T : Type 0} (n : ℕ) (xs ys : List T) → length xs + length ys ≤ n → joined n xs ys ≡ xs ++ ys
-joined_all n xs ys h = grind (arith, nat_tests)
 
 module _ (o : WordKind) (q : Pair) where
   -- how many pairs stand before the place of a new one

@@ -4,6 +4,7 @@ use Rattle.std.proofs.lemmas.Bool.Decides.{nat_tests}
 use Rattle.std.proofs.lemmas.Bool.{cases_Bool, cond-true, cond-false}
 use Rattle.std.proofs.lemmas.List.{get_or-map}
 use Rattle.fixed_vec.specs.Items.{joined}
+use Rattle.fixed_vec.proofs.Rooms.{joined_all}
 use Rattle.keys.specs.InWords.{WordKind, WordOrdered}
 use Rattle.refusal.specs.declared.Refusal.{Refusal}
 use Rattle.leaves.specs.Asking.{granted}
@@ -99,15 +100,18 @@ length_paired [] bs e = refl
 length_paired (k ∷ ks) [] e = absurd (omega arith)
 length_paired (k ∷ ks) (b ∷ bs) e = ap suc (length_paired ks bs (omega arith))
 
--- One turn of taking up the leaves of a chain.
-pub entries_more : (ks : List ℕ) (bs : List (ℕ × ℕ)) (es more : List Entry) (e : Entry) (i : ℕ) → i < length ks → length ks ≡ length bs → length ks < 64
-    → e ≡ entry (get_or ks i 0) (get_or bs i (0, 0)) → es ≡ paired (take i ks) (take i bs) → more ≡ joined 64 es (e ∷ []) → more ≡ paired (take (i + 1) ks) (take (i + 1) bs)
-entries_more ks bs es more e i h same few is was push =
-    let front = length-take i ks in
-    let other = length-take i bs in
-    let long : length es ≡ i = ap length was ∙ length_paired (take i ks) (take i bs) (omega arith) ∙ omega arith in
-    let room : leb (length es + 1) 64 ≡ true = grind (arith, nat_tests) in
-    push ∙ cond-true (leb (length es + 1) 64) _ _ room ∙ rw (was, is, add-one) (sym (paired_more ks bs i h (omega arith)))
+-- One turn of taking up the leaves of a chain: there is room, and one entry more.
+module _ (ks : List ℕ) (bs : List (ℕ × ℕ)) (es : List Entry) (i : ℕ) (h : i < length ks) (same : length ks ≡ length bs) (few : length ks < 64) (was : es ≡ paired (take i ks) (take i bs)) where
+  pub room_left : length es < 64
+  room_left =
+      let front = length-take i ks in
+      let other = length-take i bs in
+      omega (arith, ap length was ∙ length_paired (take i ks) (take i bs) (omega arith))
+
+  pub entries_more : (e : Entry) (more : List Entry) → e ≡ entry (get_or ks i 0) (get_or bs i (0, 0)) → more ≡ joined 64 es (e ∷ []) → more ≡ paired (take (i + 1) ks) (take (i + 1) bs)
+  entries_more e more is push =
+      let full = room_left in
+      push ∙ joined_all 64 es (e ∷ []) (omega arith) ∙ rw (was, is, add-one) (sym (paired_more ks bs i h (omega arith)))
 
 -- The greatest key of a leaf of an opened chain, asked from outside.
 asked_top : (o : WordKind) (m : List ℕ) (link n : ℕ) (alone : Bool) (bound : Option (ℕ × ℕ)) (ks : List ℕ) (i : ℕ) → i < length ks → Leads m link ks → UpTo n ks → AllFine o m alone bound ks → n ≤ 64 → 8 + 72 * n ≤ length m

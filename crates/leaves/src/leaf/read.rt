@@ -41,7 +41,7 @@ pub(crate) fn elements<M: Memory>(memory: &mut M, leaf: usize, count: usize) -> 
 {
     let mut read = Elements::new(Element::default());
     for slot in 0..count {
-        let _ = read.push(element(memory, leaf, slot));
+        read.push(element(memory, leaf, slot)).unwrap();
     }
     read
 }

@@ -22,7 +22,7 @@ fn deleted(run: &Run, key: (u64, u64)) -> Run
     let mut out = empty();
     for pair in run.as_slice() {
         if pair.key != key {
-            let _ = out.push(*pair);
+            out.push(*pair).unwrap();
         }
     }
     out
@@ -57,9 +57,9 @@ fn inserted<K: Key>(run: &Run, pair: Pair) -> Run
     let (smaller, rest) = pairs.split_at(place::<K>(pairs, pair.key));
     let larger = past_key::<K>(rest, pair.key);
     let mut out = empty();
-    let _ = out.extend_from_slice(smaller);
-    let _ = out.push(pair);
-    let _ = out.extend_from_slice(larger);
+    out.extend_from_slice(smaller).unwrap();
+    out.push(pair).unwrap();
+    out.extend_from_slice(larger).unwrap();
     out
 }
 

@@ -35,7 +35,7 @@ fn walk<K: Key, M: Memory>(memory: &mut M, leaves: usize, first: u64) -> Result<
         let alone = (from, next) == (0, 0);
         bound = check::<K, M>(memory, leaf, bound, alone)?;
         // there is room, since one of at most 64 leaves stays free
-        let _ = chain.push(leaf);
+        chain.push(leaf).unwrap();
         from = leaf;
         link = next;
     }

@@ -36,10 +36,8 @@ fn opened<K: Key, M: Memory>(memory: &mut M, leaves: &[usize]) -> State
         bound: (0, 0),
     });
     for leaf in leaves {
-        let _ = entries.push(Entry {
-            to: *leaf,
-            bound: top::<K, M>(memory, *leaf),
-        });
+        let bound = top::<K, M>(memory, *leaf);
+        entries.push(Entry { to: *leaf, bound }).unwrap();
     }
     Index::build(entries.as_slice()).map_or(State::Blank, State::Open)
 }

@@ -11,4 +11,4 @@ split_at-requires g c = grind (arith, prefix_len-le-length)
 pub returns : goal.returns
 returns g c =
     let whole = insert_joined (in_words g.K.Key.kind) c.args.pair (items c.args.run.now) c.requires in
-    cc
+    rw (c.extend_from_slice-2.ensures.list, c.push.ensures.list, c.extend_from_slice.ensures.list, c.empty-out.ensures, c.past_key-larger.ensures, c.split_at.ensures.back, c.split_at.ensures.front, c.place.ensures, c.as_slice-pairs.ensures.value) whole

@@ -5,7 +5,7 @@ use Rattle.std.proofs.lemmas.Result.{err_from_is_err_and}
 use Rattle.leaves.specs.Layout.{next_of}
 use Rattle.leaves.specs.Opening.{leaves_of}
 use Rattle.leaves.proofs.Kept.{live_same}
-use Rattle.leaves.proofs.RunLaws.{joined_all}
+use Rattle.fixed_vec.proofs.Rooms.{joined_all}
 use Rattle.std.proofs.lemmas.Bool.Decides.{nat_tests}
 use Rattle.leaves.proofs.OpeningLaws.{walk_ended, walk_refused, fault_here, on_here}
 use Rattle.leaves.proofs.open.walk.walk.Goals as goal

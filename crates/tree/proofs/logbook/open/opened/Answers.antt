@@ -1,7 +1,9 @@
 use Rattle.std.proofs.Common.{get_or, take_all, ap, ◌∙◌, arith}
+use Rattle.fixed_vec.specs.Items.{items}
+use Rattle.fixed_vec.proofs.Rooms.{one_granted}
 use Rattle.keys.specs.InWords.{in_words}
 use Rattle.tree.specs.Shape.{tops, top_at}
-use Rattle.tree.proofs.OpenLaws.{built_is, entries_more, in_chain, length_tops, shape_built, shape_made, top_is}
+use Rattle.tree.proofs.OpenLaws.{built_is, entries_more, room_left, in_chain, length_tops, shape_built, shape_made, top_is}
 use Rattle.tree.proofs.logbook.open.opened.Goals as goal
 
 pub loop-leaf-preserved : goal.loop-leaf-preserved
@@ -11,10 +13,18 @@ loop-leaf-preserved g c =
     let ks = c.args.leaves.now in
     let l = c.loop-leaf in
     let i = l.leaf-index in
-    let top = c.top.ensures.value ∙ ap (λ w. top_at o w.live (get_or ks i 0)) l.invariant.0 ∙ top_is o m ks c.requires i c.loop-leaf-test.true in (
-      c.top.ensures.same ∙ l.invariant.0,
-      entries_more ks (tops o m ks) _ _ _ i c.loop-leaf-test.true (length_tops o m ks) (in_chain o m ks c.requires).1 (rw top) l.invariant.1 c.push.ensures.list,
+    let top = c.top-bound.ensures.value ∙ ap (λ w. top_at o w.live (get_or ks i 0)) l.invariant.0 ∙ top_is o m ks c.requires i c.loop-leaf-test.true in (
+      c.top-bound.ensures.same ∙ l.invariant.0,
+      entries_more ks (tops o m ks) _ i c.loop-leaf-test.true (length_tops o m ks) (in_chain o m ks c.requires).1 l.invariant.1 _ _ (rw top) c.push.ensures.list,
     )
+
+pub unwrap-requires : goal.unwrap-requires
+unwrap-requires g c =
+    let o = in_words g.K.Key.kind in
+    let m = (g.M.Memory.meaning c.args.memory.now).live in
+    let ks = c.args.leaves.now in
+    let l = c.loop-leaf in
+    one_granted 64 (items l.entries) c.push.ensures.answer (room_left ks (tops o m ks) _ l.leaf-index c.loop-leaf-test.true (length_tops o m ks) (in_chain o m ks c.requires).1 l.invariant.1)
 
 pub returns : goal.returns
 returns g c =
