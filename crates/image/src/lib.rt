@@ -45,6 +45,7 @@ pub fn write<M: Memory>(memory: &mut M, octets: &mut [u8]) -> Result<(), Refusal
 {
     let size = memory.size();
     check_length(octets.len(), size)?;
+    // Counted: a memory is read by the number of a word, and what is written through `as_chunks_mut` is not known afterwards.
     for i in 0..size {
         let word = memory.read(i)?;
         write_word(octets, i, word);

@@ -1,4 +1,5 @@
-// The index: a table of nodes, node 0 the root, the children of node i at 9 * i + 1 and on.
+// The index: a table of nodes, node 0 the root, the children of node i at 9 * i + 1 and on. There is no heap, so a child is
+// its number.
 ghost use Rattle.std.specs.Prelude.{◌≡◌, ◌≤◌, length};
 ghost use Rattle.index.specs.Search.{concat, Full, Small};
 ghost use Rattle.index.specs.Shape.{groups, Sound};

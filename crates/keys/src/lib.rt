@@ -16,7 +16,7 @@ use std::cmp::Ordering;
 pub trait Key: Copy {
     ghost kind: { Kind Self };
 
-    // The code of the kind.
+    // The code of the kind, as a memory's word 1 holds it; kinds themselves are types.
     fn code() -> u64
         ensures { result ≡ kind.code };
 

@@ -6,6 +6,7 @@ pub mod sorted;
 
 use fixed_vec::FixedVec;
 
+// The four words of a slot as they stand, whatever they are: the sign stays a word.
 #[derive(Clone, Copy, Default)]
 pub struct Element {
     pub sign: u64,

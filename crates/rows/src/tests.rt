@@ -1,4 +1,5 @@
 // Short tests of the crates below, on examples.
 mod of_image;
 mod of_keys;
+mod of_lists;
 mod of_memory;

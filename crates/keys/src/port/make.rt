@@ -23,6 +23,7 @@ impl Port {
         if !is_port(identity, number) {
             return Err(Refusal::NotAKey);
         }
+        // The number fits, by the test.
         Ok(Port {
             identity,
             number: number as u16,

@@ -24,6 +24,7 @@ impl Stamp {
         if !is_stamp(year, day, millisecond) {
             return Err(Refusal::NotAKey);
         }
+        // Each fits, by the test.
         Ok(Stamp {
             year: year as u16,
             day: day as u16,

@@ -40,6 +40,7 @@ pub(crate) fn elements<M: Memory>(memory: &mut M, leaf: usize, count: usize) -> 
     ensures value { items result ≡ elements_of (M.Memory.meaning memory.old).live leaf count }
 {
     let mut read = Elements::new(Element::default());
+    // Counted: the memory is asked by the number of a slot; a chain of iterators would have to lend it to a closure.
     for slot in 0..count {
         read.push(element(memory, leaf, slot)).unwrap();
     }

@@ -22,6 +22,7 @@ fn walk<K: Key, M: Memory>(memory: &mut M, leaves: usize, first: u64) -> Result<
     let mut from = 0;
     let mut bound = None;
     let mut link = first;
+    // 0 is the format's own end of a chain, and the linking leaf that is told for the head.
     while link != 0 {
         let leaf = link as usize;
         if chain.len() + 1 >= leaves || leaf > leaves || chain.as_slice().contains(&leaf) {
