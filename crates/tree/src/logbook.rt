@@ -16,10 +16,10 @@ pub enum State {
     Dark,
 }
 
-// It holds its memory, and `taken` is the leaf taken last, 0 for none.
+// It holds its memory, and `taken` is the leaf taken last, if one was.
 pub struct Logbook<K, M> {
     memory: M,
     state: State,
-    taken: usize,
+    taken: Option<usize>,
     kind: PhantomData<K>,
 }

@@ -7,7 +7,7 @@ ghost use Rattle.leaves.specs.Pairs.{first_after, lookup, pairs};
 
 use super::Pair;
 use crate::leaf::check::greatest;
-use crate::leaf::read::{elements, find, word_at};
+use crate::leaf::read::{elements, find, start_of, word_at};
 use crate::leaf::sorted::{load, next};
 use keys::Key;
 use memory::Memory;
@@ -21,7 +21,7 @@ pub fn count_in<M: Memory>(memory: &mut M, leaf: usize) -> Result<usize, Refusal
     if leaf < 1 || leaf > 64 || memory.size() < 8 + 72 * leaf {
         return Err(Refusal::Outside);
     }
-    let count = word_at(memory, 9 + 72 * (leaf - 1));
+    let count = word_at(memory, start_of(leaf) + 1);
     if count > 16 {
         return Err(Refusal::BadLeaf);
     }

@@ -6,7 +6,7 @@ ghost use Rattle.leaves.specs.Pairs.{folded};
 ghost use Rattle.leaves.specs.Opening.{sign_fits, after as after_bound, bad_leaf_of, good as good_element, first_bad_of, leaf_fault, checked, greatest as greatest_of, greatest_key};
 
 use super::Element;
-use crate::leaf::read::{elements, find, word_at};
+use crate::leaf::read::{elements, find, start_of, word_at};
 use crate::open::Fault;
 use keys::{Key, greater};
 use memory::Memory;
@@ -96,7 +96,7 @@ pub(crate) fn check<K: Key, M: Memory>(
     ensures same { M.Memory.meaning memory.new ≡ M.Memory.meaning memory.old }
     ensures value { result ≡ checked leaf (leaf_fault (in_words K.Key.kind) (M.Memory.meaning memory.old).live bound alone leaf) (Ok (greatest_of (in_words K.Key.kind) (M.Memory.meaning memory.old).live leaf (count_of (M.Memory.meaning memory.old).live leaf))) }
 {
-    let start = 8 + 72 * (leaf - 1);
+    let start = start_of(leaf);
     let count = word_at(memory, start + 1);
     let form = word_at(memory, start + 2);
     if !can_stand(count, form, alone) {

@@ -1,19 +1,26 @@
 // Words and elements of one leaf, for every content of the memory.
 ghost use Rattle.std.specs.Prelude.{◌≡◌, ◌<◌, ◌≤◌, length};
 ghost use Rattle.fixed_vec.specs.Items.{items};
-ghost use Rattle.leaves.specs.Layout.{word, Within, element as element_at, elements as elements_of};
+ghost use Rattle.leaves.specs.Layout.{word, Within, leaf_at, element as element_at, elements as elements_of};
 ghost use Rattle.leaves.specs.Pairs.{held as held_by, latest};
 
 use super::{Element, Elements};
 use memory::Memory;
+
+// The word that a leaf begins at.
+pub(crate) fn start_of(leaf: usize) -> usize
+    requires { (1 ≤ leaf) × (leaf ≤ 64) }
+    ensures { result ≡ leaf_at leaf }
+{
+    8 + 72 * (leaf - 1)
+}
 
 pub(crate) fn word_at<M: Memory>(memory: &mut M, at: usize) -> u64
     requires { at < length (M.Memory.meaning memory.old).live }
     ensures same { M.Memory.meaning memory.new ≡ M.Memory.meaning memory.old }
     ensures value { result ≡ word (M.Memory.meaning memory.old).live at }
 {
-    // a word within the memory is always read
-    memory.read(at).unwrap_or(0)
+    memory.read(at).unwrap()
 }
 
 fn element<M: Memory>(memory: &mut M, leaf: usize, slot: usize) -> Element
@@ -21,7 +28,7 @@ fn element<M: Memory>(memory: &mut M, leaf: usize, slot: usize) -> Element
     ensures same { M.Memory.meaning memory.new ≡ M.Memory.meaning memory.old }
     ensures value { result ≡ element_at (M.Memory.meaning memory.old).live leaf slot }
 {
-    let start = 16 + 72 * (leaf - 1) + 4 * slot;
+    let start = start_of(leaf) + 8 + 4 * slot;
     let sign = word_at(memory, start);
     let first = word_at(memory, start + 1);
     let second = word_at(memory, start + 2);

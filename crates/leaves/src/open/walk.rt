@@ -7,7 +7,7 @@ ghost use Rattle.leaves.specs.Opening.{leaves_of, walk as walk_answer, told, hea
 
 use super::{Chain, Fault};
 use crate::leaf::check::check;
-use crate::leaf::read::word_at;
+use crate::leaf::read::{start_of, word_at};
 use keys::Key;
 use memory::Memory;
 use refusal::Refusal;
@@ -32,7 +32,7 @@ fn walk<K: Key, M: Memory>(memory: &mut M, leaves: usize, first: u64) -> Result<
                 slot: 0,
             });
         }
-        let next = word_at(memory, 8 + 72 * (leaf - 1));
+        let next = word_at(memory, start_of(leaf));
         let alone = (from, next) == (0, 0);
         bound = check::<K, M>(memory, leaf, bound, alone)?;
         // there is room, since one of at most 64 leaves stays free

@@ -20,7 +20,7 @@ fn located<K: Key>(index: &Index, key: (u64, u64)) -> usize
     ensures { Ascending (in_words K.Key.kind) (front (bounds (listed index.now))) → result ≡ (slice_index_or (listed index.now) (search (in_words K.Key.kind) key (bounds (listed index.now))) (entry 0 (0, 0))).to }
 {
     let place = index.locate::<K>(key);
-    index.entry(place).map_or(0, |entry| entry.to)
+    index.entry(place).unwrap().to
 }
 
 impl<K: Key, M: Memory> Logbook<K, M> {

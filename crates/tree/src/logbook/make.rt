@@ -1,5 +1,5 @@
 // Making a logbook, and giving its memory back.
-ghost use Rattle.std.specs.Prelude.{◌≡◌};
+ghost use Rattle.std.specs.Prelude.{◌≡◌, None};
 ghost use Rattle.tree.specs.declared.logbook.State.TheVariants.{Blank};
 
 use super::{Logbook, State};
@@ -12,12 +12,12 @@ impl<K: Key, M: Memory> Logbook<K, M> {
     pub fn new(memory: M) -> Self
         ensures memory { result.memory ≡ memory }
         ensures state { result.state ≡ Blank }
-        ensures taken { result.taken ≡ 0 }
+        ensures taken { result.taken ≡ None }
     {
         Logbook {
             memory,
             state: State::Blank,
-            taken: 0,
+            taken: None,
             kind: PhantomData,
         }
     }

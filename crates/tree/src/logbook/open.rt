@@ -1,5 +1,5 @@
 // Open.
-ghost use Rattle.std.specs.Prelude.{◌≡◌, Ok, MatchResult};
+ghost use Rattle.std.specs.Prelude.{◌≡◌, None, Ok, MatchResult};
 ghost use Rattle.keys.specs.InWords.{in_words};
 ghost use Rattle.leaves.specs.Opening.{open_answer};
 ghost use Rattle.tree.specs.Sound.{Sound};
@@ -48,7 +48,7 @@ impl<K: Key, M: Memory> Logbook<K, M> {
         ensures same { M.Memory.meaning self.new.memory ≡ M.Memory.meaning self.old.memory }
         ensures answer { result ≡ open_told self.old.state (open_answer (in_words K.Key.kind) (M.Memory.meaning self.old.memory).live) }
         ensures state { shape_of self.new.state ≡ open_shape (in_words K.Key.kind) (M.Memory.meaning self.old.memory).live self.old.state }
-        ensures taken { MatchResult result (λ _. self.new.taken ≡ 0) (λ _. self.new.taken ≡ self.old.taken) }
+        ensures taken { MatchResult result (λ _. self.new.taken ≡ None) (λ _. self.new.taken ≡ self.old.taken) }
         ensures sound { Sound (in_words K.Key.kind) (M.Memory.meaning self.new.memory).live self.new.state }
     {
         if let State::Dark = self.state {
@@ -57,7 +57,7 @@ impl<K: Key, M: Memory> Logbook<K, M> {
         match open::<K, M>(&mut self.memory) {
             Ok(chain) => {
                 self.state = opened::<K, M>(&mut self.memory, chain.as_slice());
-                self.taken = 0;
+                self.taken = None;
                 Ok(())
             }
             Err(fault) => {

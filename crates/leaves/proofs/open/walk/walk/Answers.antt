@@ -27,7 +27,7 @@ returns-in_err-bound-clause-value g c =
     let p = err_from_is_err_and c.from_residual.result c.from_residual.ensures.1 in
     rw (p.1, p.2)
     (fault_here (in_words g.K.Key.kind) (g.M.Memory.meaning c.args.memory.now).live c.args.leaves (leaves_of l.chain) l.bound l.from l.link l.invariant.2 c.loop-link-test.true (omega arith) (grind (arith, nat_tests))
-    (live_same (c.word_at-next.ensures.same ∙ l.invariant.0)) (c.word_at-next.ensures.value ∙ ap (λ ws. next_of ws l.link) (live_same l.invariant.0)) c.eq-alone.ensures c.in_err-bound.ensures.value)
+    (live_same (c.word_at-next.ensures.same ∙ l.invariant.0)) ((rw c.start_of.ensures at c.word_at-next.ensures.value) ∙ ap (λ ws. next_of ws l.link) (live_same l.invariant.0)) c.eq-alone.ensures c.in_err-bound.ensures.value)
 
 pub loop-link-preserved : goal.loop-link-preserved
 loop-link-preserved g c =
@@ -37,7 +37,7 @@ loop-link-preserved g c =
       c.check.ensures.same ∙ c.word_at-next.ensures.same ∙ l.invariant.0,
       omega (arith, ap length more, length_push used l.link),
       on_here (in_words g.K.Key.kind) (g.M.Memory.meaning c.args.memory.now).live c.args.leaves used l.bound l.from l.link l.invariant.2 c.loop-link-test.true (omega arith) (grind (arith, nat_tests))
-          (live_same (c.word_at-next.ensures.same ∙ l.invariant.0)) (c.word_at-next.ensures.value ∙ ap (λ ws. next_of ws l.link) (live_same l.invariant.0)) c.eq-alone.ensures c.in_ok-bound.ensures.value more,
+          (live_same (c.word_at-next.ensures.same ∙ l.invariant.0)) ((rw c.start_of.ensures at c.word_at-next.ensures.value) ∙ ap (λ ws. next_of ws l.link) (live_same l.invariant.0)) c.eq-alone.ensures c.in_ok-bound.ensures.value more,
     )
 
 pub returns-then-from-eq0-clause-value : goal.returns-then-from-eq0-clause-value
