@@ -139,6 +139,9 @@ group_count nodes gs e = sym (length-map nodes items) ∙ ap length e
 pub node_group : (nodes : List Node) (gs : List (List Entry)) (g : ℕ) (d n : Node) → map items nodes ≡ gs → g < length gs → n ≡ get_or nodes g d → items n ≡ get_or gs g []
 node_group nodes gs g d n e h is = ap items is ∙ sym (get_or-map items nodes g d [] (omega (arith, h, group_count nodes gs e))) ∙ ap (λ v. get_or v g []) e
 
+pub group_read : (nodes : List Node) (gs : List (List Entry)) (g : ℕ) (d : Node) → map items nodes ≡ gs → g < length gs → items (get_or nodes g d) ≡ get_or gs g []
+group_read nodes gs g d e h = node_group nodes gs g d (get_or nodes g d) e h refl
+
 pub length_renamed : (es : List Entry) (s leaf : ℕ) → length (renamed es s leaf) ≡ length es
 length_renamed [] s leaf = refl
 length_renamed (e ∷ es) zero leaf = refl

@@ -1,11 +1,11 @@
-use Rattle.std.proofs.Common.{◌≡◌, length, get_or, refl, ap, ◌∙◌, arith}
+use Rattle.std.proofs.Common.{◌≡◌, length, ap, ◌∙◌, arith}
 use Rattle.keys.specs.InWords.{in_words}
 use Rattle.keys.proofs.WordLaws.{in_words_ordered}
 use Rattle.index.specs.Nodes.{bounds}
 use Rattle.index.specs.Search.{search, front, Ascending}
 use Rattle.index.specs.Places.{position}
 use Rattle.index.specs.Meaning.{grouped, listed}
-use Rattle.index.proofs.ChangeLaws.{node_group}
+use Rattle.index.proofs.ChangeLaws.{group_read}
 use Rattle.index.proofs.LocateLaws.{leaves_some, by_groups, then_first, then_only}
 use Rattle.index.proofs.PlaceLaws.{within_of}
 use Rattle.index.proofs.table.Index.locate.Goals as goal
@@ -14,11 +14,8 @@ pub search-slot-requires : goal.search-slot-requires
 unfolding grouped
 search-slot-requires g c =
     let x = c.args.self.now in
-    let gs = grouped x in
-    let nodes = c.groups.result.now in
-    let node = get_or nodes c.group_of-group.result c.index-groups-group.result in
     let below = c.group_of-group.ensures.within in
-    let same = c.as_slice.ensures.value ∙ node_group nodes gs c.group_of-group.result c.index-groups-group.result node c.groups.ensures below refl in
+    let same = c.as_slice.ensures.value ∙ group_read c.groups.result.now (grouped x) c.group_of-group.result c.index-groups-group.result c.groups.ensures below in
     omega (arith, x.full c.group_of-group.result below, ap length same)
 
 pub returns : goal.returns
@@ -26,10 +23,8 @@ unfolding grouped
 returns g c =
     let x = c.args.self.now in
     let gs = grouped x in
-    let nodes = c.groups.result.now in
-    let node = get_or nodes c.group_of-group.result c.index-groups-group.result in
     let below = c.group_of-group.ensures.within in
-    let same = c.as_slice.ensures.value ∙ node_group nodes gs c.group_of-group.result c.index-groups-group.result node c.groups.ensures below refl in
+    let same = c.as_slice.ensures.value ∙ group_read c.groups.result.now gs c.group_of-group.result c.index-groups-group.result c.groups.ensures below in
     let o = in_words g.K.Key.kind in
     let laws = in_words_ordered g.K.Key.kind g.met.K.Key.ordered g.met.K.Key.formed in
     let bs = bounds (listed x) in
