@@ -5,7 +5,7 @@ pub(crate) mod fill;
 pub(crate) mod search;
 
 // A leaf or a child node, and its bound; the bound of the last one is not used.
-#[derive(Clone, Copy, PartialEq, Eq, Debug)]
+#[derive(Clone, Copy, Default, PartialEq, Eq, Debug)]
 pub struct Entry {
     pub to: usize,
     pub bound: (u64, u64),

@@ -10,10 +10,7 @@ use fixed_vec::FixedVec;
 pub(crate) fn empty<const N: usize>() -> FixedVec<Entry, N>
     ensures { items_of result ≡ [] }
 {
-    FixedVec::new(Entry {
-        to: 0,
-        bound: (0, 0),
-    })
+    FixedVec::new(Entry::default())
 }
 
 impl Node {

@@ -23,10 +23,7 @@ impl Index {
     pub fn build(entries: &[Entry]) -> Option<Index>
         ensures { grouped_in result ≡ built_groups entries.now }
     {
-        if entries.len() < 1 || entries.len() > 64 {
-            return None;
-        }
-        Some(built(entries))
+        (1..=64).contains(&entries.len()).then(|| built(entries))
     }
 
     // The first leaf whose bound is not before the key, otherwise the last.

@@ -35,10 +35,8 @@ impl Index {
     pub(crate) fn has(&self, place: Place) -> bool
         ensures { result ≡ within (grouped self.now) place }
     {
-        match self.groups().get(place.group) {
-            Some(node) => place.slot < node.entries.len(),
-            None => false,
-        }
+        let node = self.groups().get(place.group);
+        node.is_some_and(|node| place.slot < node.entries.len())
     }
 
     // The entry of node `at` that the key belongs to.

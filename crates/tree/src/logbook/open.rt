@@ -31,10 +31,7 @@ fn opened<K: Key, M: Memory>(memory: &mut M, leaves: &[usize]) -> State
     ensures same { M.Memory.meaning memory.new ≡ M.Memory.meaning memory.old }
     ensures shape { shape_of result ≡ built_shape leaves.now (tops (in_words K.Key.kind) (M.Memory.meaning memory.old).live leaves.now) }
 {
-    let mut entries = FixedVec::<Entry, 64>::new(Entry {
-        to: 0,
-        bound: (0, 0),
-    });
+    let mut entries = FixedVec::<Entry, 64>::new(Entry::default());
     for leaf in leaves {
         let bound = top::<K, M>(memory, *leaf);
         entries.push(Entry { to: *leaf, bound }).unwrap();
