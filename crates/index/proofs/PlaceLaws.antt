@@ -3,7 +3,7 @@ use Rattle.std.proofs.Common.{◌≡◌, ℕ, zero, suc, ◌+◌, ◌-◌, ◌<�
 use Rattle.std.proofs.lemmas.Bool.{cond-true, cond-false, le-ltb, lt-ltb, ltb-true, cases_lt, cases_Bool, and_parts, and_from, true≢false}
 use Rattle.index.specs.declared.node.Entry.{Entry}
 use Rattle.index.specs.declared.table.Place.{Place}
-use Rattle.index.specs.Search.{concat, offset}
+use Rattle.index.specs.Search.{concat, offset, Full}
 use Rattle.index.specs.Places.{within, group_of, position, moved, place_at, place_after, place_before, Placed, Numbered, EveryNumber}
 
 abbrev pub Within : List (List Entry) → Place → Type 0
@@ -104,3 +104,11 @@ after_parts gs p q e =
     (λ t. let n = number_at gs (position gs p + 1) q (sym (cond-true _ _ _ t) ∙ e) in (within_parts gs p t, n.0, n.1))
     (λ f. none_some (sym (cond-false _ _ _ f) ∙ e))
     (cases_Bool (within gs p))
+
+-- The place of the first leaf.
+pub first_within : (gs : List (List Entry)) → 0 < length gs → Full gs → within gs (at 0 0) ≡ true
+first_within gs some full = within_of gs (at 0 0) (some, full 0 some)
+
+pub first_position : (gs : List (List Entry)) → position gs (at 0 0) ≡ 0
+first_position [] = refl
+first_position (g ∷ gs) = refl

@@ -1,2 +1,3 @@
 pub mod LocatedLaws
 pub mod OpenLaws
+pub mod WalkLaws

@@ -25,12 +25,12 @@ use Rattle.tree.specs.declared.logbook.State.TheVariants.{Blank, Open, Dark}
 use Rattle.tree.specs.Sound.{Fits, Sound}
 use Rattle.tree.specs.Telling.{Rising, asked, find_answer, found, leaf_for_key}
 
-search_is : (o : WordKind) (w : ℕ × ℕ) (bs : List (ℕ × ℕ)) → search o w bs ≡ locate o w (front bs)
+pub search_is : (o : WordKind) (w : ℕ × ℕ) (bs : List (ℕ × ℕ)) → search o w bs ≡ locate o w (front bs)
 search_is o w [] = refl
 search_is o w (b ∷ []) = refl
 search_is o w (b ∷ c ∷ bs) = ap (λ n. cond (o.before b w) (suc n) 0) (search_is o w (c ∷ bs))
 
-number_at : (es : List Entry) (n : ℕ) → (get_or es n (entry 0 (0, 0))).to ≡ get_or (numbers es) n 0
+pub number_at : (es : List Entry) (n : ℕ) → (get_or es n (entry 0 (0, 0))).to ≡ get_or (numbers es) n 0
 number_at [] n = refl
 number_at (e ∷ es) zero = refl
 number_at (e ∷ es) (suc n) = number_at es n
@@ -82,23 +82,23 @@ located_in o ordered m es s w leaf fits is =
       counted = counts m p.leaf low (omega (arith, opens.most)) (omega (arith, opens.fits)) few;
     }
 
-never : {A : Type 0} (x : ℕ) (e : Refusal) → ◌≡◌ {A = Result ℕ Refusal} (Ok x) (Err e) → A
-never x e p = let z : ◌≡◌ {A = ℕ} 0 1 = cc in absurd (omega arith)
+pub never_ok : {A X : Type 0} {x : X} (e : Refusal) → ◌≡◌ {A = Result X Refusal} (Ok x) (Err e) → A
+never_ok e p = let z : ◌≡◌ {A = ℕ} 0 1 = cc in absurd (omega arith)
 
 pub located : (o : WordKind) → WordOrdered o → (m : List ℕ) (s : State) (w : ℕ × ℕ) (leaf : ℕ) → Sound o m s → Ok leaf ≡ leaf_for_key o s w → Located o m s w leaf
-located o ordered m Blank w leaf h e = never leaf _ e
+located o ordered m Blank w leaf h e = never_ok _ e
 located o ordered m (Open x) w leaf h e = located_in o ordered m (listed x) (Open x) w leaf h (cc)
-located o ordered m Dark w leaf h e = never leaf _ e
+located o ordered m Dark w leaf h e = never_ok _ e
 
 -- What an open logbook answers, and what another refuses.
 pub answers : {X : Type 0} (o : WordKind) (s : State) (w : ℕ × ℕ) (leaf : ℕ) (r : Result X Refusal) → Ok leaf ≡ leaf_for_key o s w → r ≡ asked s r
-answers o Blank w leaf r e = never leaf _ e
+answers o Blank w leaf r e = never_ok _ e
 answers o (Open x) w leaf r e = refl
-answers o Dark w leaf r e = never leaf _ e
+answers o Dark w leaf r e = never_ok _ e
 
 pub refuses : {X : Type 0} (o : WordKind) (s : State) (w : ℕ × ℕ) (e : Refusal) (r : Result X Refusal) → Err e ≡ leaf_for_key o s w → Err e ≡ asked s r
 refuses o Blank w e r h = cc
-refuses o (Open x) w e r h = never _ e (sym h)
+refuses o (Open x) w e r h = never_ok e (sym h)
 refuses o Dark w e r h = cc
 
 -- In a sound logbook the located leaf never refuses a question, and its answer is the book's.

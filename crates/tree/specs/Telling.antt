@@ -1,9 +1,10 @@
 -- What a logbook tells of its book.
-use Rattle.std.specs.Prelude.{ℕ, cond, List, Some, None, Ok, Err, Option, Result, nat_lt, slice_index_or}
+use Rattle.std.specs.Prelude.{ℕ, cond, List, Some, None, Ok, Err, Option, Result, length, nat_lt, slice_index_or}
 use Rattle.refusal.specs.declared.Refusal.{Refusal}
 use Rattle.refusal.specs.declared.Refusal.TheVariants.{NoPower, Absent, Blank as NotOpened}
 use Rattle.keys.specs.InWords.{WordKind}
-use Rattle.leaves.specs.Pairs.{lookup}
+use Rattle.leaves.specs.declared.leaf.Pair.{Pair}
+use Rattle.leaves.specs.Pairs.{first_after, lookup}
 use Rattle.books.specs.Footprint.{book}
 use Rattle.index.specs.Meaning.{grouped, listed}
 use Rattle.index.specs.Showing.{Telling, node_told}
@@ -32,6 +33,18 @@ found (Some reading) = Ok reading
 -- Find tells the reading that the book has of a key.
 abbrev pub find_answer : WordKind → List ℕ → State → ℕ × ℕ → Result ℕ Refusal
 find_answer o m s w = asked s (found (lookup w (book o m)))
+
+abbrev pub paired_or : Option Pair → Result Pair Refusal
+paired_or None = Err Absent
+paired_or (Some p) = Ok p
+
+-- Next tells the first pair of the book after a key.
+abbrev pub next_answer : WordKind → List ℕ → State → ℕ × ℕ → Result Pair Refusal
+next_answer o m s w = asked s (paired_or (first_after o w (book o m)))
+
+-- Pairs tells how many the book has.
+abbrev pub pairs_answer : WordKind → List ℕ → State → Result ℕ Refusal
+pairs_answer o m s = asked s (Ok (length (book o m)))
 
 -- The bounds of an open index ascend.
 abbrev pub Rising : WordKind → State → Type 0

@@ -5,7 +5,10 @@ use std::marker::PhantomData;
 pub mod find;
 pub mod make;
 pub mod node;
+pub mod next;
 pub mod open;
+pub mod pairs;
+pub mod place;
 
 // Blank: neither formatted nor opened. Open: with the index of the linked leaves. Dark: the memory refused a step, and nothing is
 // told until it is opened anew.

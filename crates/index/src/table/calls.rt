@@ -38,6 +38,14 @@ impl Index {
         Place { group, slot }
     }
 
+    // The place of the first leaf.
+    pub fn first(&self) -> Place
+        ensures within { within (grouped self.now) result ≡ true }
+        ensures place { position (grouped self.now) result ≡ 0 }
+    {
+        Place { group: 0, slot: 0 }
+    }
+
     // The leaf at a place, with its bound.
     pub fn entry(&self, place: Place) -> Option<Entry>
         ensures { result ≡ leaf_at (grouped self.now) place }
