@@ -1,3 +1,4 @@
 pub mod LocatedLaws
 pub mod OpenLaws
 pub mod WalkLaws
+pub mod FormatLaws

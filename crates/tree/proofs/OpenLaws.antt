@@ -155,7 +155,7 @@ concat_singles : (es : List Entry) → concat (singles es) ≡ es
 concat_singles [] = refl
 concat_singles (e ∷ es) = ap (λ xs. e ∷ xs) (concat_singles es)
 
-same_groups : (a b : List (List Entry)) → groups a ≡ groups b → a ≡ b
+pub same_groups : (a b : List (List Entry)) → groups a ≡ groups b → a ≡ b
 same_groups a b e = cc
 
 -- What opening leaves, from what it found.

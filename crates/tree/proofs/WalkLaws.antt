@@ -86,7 +86,7 @@ step_on (Open x) p leaf after h e =
     let leaf_is = ap (λ (a : ℕ × Option Place). a.0) same in
     let after_is = ap (λ (a : ℕ × Option Place). a.1) same in (
       rest_more (grouped x) p h ∙ ap (λ k. k ∷ rest (grouped x) (place_after (grouped x) p)) (sym leaf_is)
-      ∙ ap (λ ks. leaf ∷ ks) (ap (rest (grouped x)) (sym after_is) ∙ sym (onwards_is x after)),
+          ∙ ap (λ ks. leaf ∷ ks) (ap (rest (grouped x)) (sym after_is) ∙ sym (onwards_is x after)),
       standing_after x p after (sym after_is),
     )
 step_on Dark p leaf after h e = absurd h

@@ -2,3 +2,4 @@ pub mod Shape
 pub mod Sound
 pub mod Telling
 pub mod Walk
+pub mod Formatting

@@ -3,9 +3,10 @@ use index::table::Index;
 use std::marker::PhantomData;
 
 pub mod find;
+pub mod format;
 pub mod make;
-pub mod node;
 pub mod next;
+pub mod node;
 pub mod open;
 pub mod pairs;
 pub mod place;

@@ -1,5 +1,7 @@
 // Making a logbook, and giving its memory back.
 ghost use Rattle.std.specs.Prelude.{◌≡◌, None};
+ghost use Rattle.std.specs.Borrow.{Lends, sem};
+ghost use Rattle.tree.specs.contracts.logbook.Logbook.{the_row};
 ghost use Rattle.tree.specs.declared.logbook.State.TheVariants.{Blank};
 
 use super::{Logbook, State};
@@ -20,6 +22,28 @@ impl<K: Key, M: Memory> Logbook<K, M> {
             taken: None,
             kind: PhantomData,
         }
+    }
+
+    // Blank, open or dark.
+    pub fn state(&self) -> &State
+        ensures { result.now ≡ self.now.state }
+    {
+        &self.state
+    }
+
+    // The memory below, to be looked at.
+    pub fn memory(&self) -> &M
+        ensures { result.now ≡ self.now.memory }
+    {
+        &self.memory
+    }
+
+    // The memory below, to be changed past the logbook: an open one speaks of the new words only once it is opened anew.
+    pub fn memory_mut(&mut self) -> &mut M
+        ensures value { result.now ≡ self.old.memory }
+        ensures* writes_back { sem 𝓛 (Lends (the_row K.row M.row) M.row self.entry result (λ w. record self.old { memory = w })) }
+    {
+        &mut self.memory
     }
 
     // Gives the memory back, in every state.
