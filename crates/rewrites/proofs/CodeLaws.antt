@@ -1,5 +1,5 @@
 -- The words of a leaf's pairs in lines of eight, and the line writes of a leaf in two parts.
-use Rattle.std.proofs.Common.{◌≡◌, ℕ, suc, ◌+◌, ◌*◌, ◌/◌, ◌<◌, ◌≤◌, List, [], ◌∷◌, ◌++◌, length, length-take, take, true, cond, leb, Ok, Err, Result, refl, ap, ◌∙◌, arith, rules}
+use Rattle.std.proofs.Common.{◌≡◌, ℕ, suc, ◌+◌, ◌*◌, ◌<◌, ◌≤◌, List, [], ◌∷◌, ◌++◌, length, length-take, take, true, cond, leb, Ok, Err, Result, refl, ap, ◌∙◌, arith, rules}
 use Rattle.std.specs.Prelude.{flat_map}
 use Rattle.std.specs.Result.{IsOk}
 use Rattle.fixed_vec.specs.declared.list.Full.{Full}

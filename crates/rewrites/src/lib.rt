@@ -6,7 +6,9 @@ ghost use Rattle.std.specs.Prelude.{◌≡◌, ◌+◌, ◌*◌, ◌/◌, ◌^�
 ghost use Rattle.refusal.specs.declared.Refusal.TheVariants.{Outside};
 ghost use Rattle.fixed_vec.specs.Items.{items};
 ghost use Rattle.writes.specs.Writes.{onward, outcome, perform, single};
-ghost use Rattle.rewrites.specs.Rewrite.{leaf_lines, leaf_steps, pair_words};
+ghost use Rattle.rewrites.specs.Bounds.{RewriteBounds};
+ghost use Rattle.rewrites.specs.Parity.{NeverEmpty};
+ghost use Rattle.rewrites.specs.Rewrite.{CostsFew, LeafCost, Replacements, RewriteCost, Rewritings, leaf_lines, leaf_steps, pair_words};
 
 use fixed_vec::FixedVec;
 use leaves::leaf::Pair;
@@ -62,3 +64,23 @@ pub fn link<M: Memory>(
 {
     write_row(memory, steps, at, &[leaf as u64])
 }
+
+// A rewrite is a turn, whatever leaves it replaces and whatever content takes their place; one that carries a call's elements keeps the
+// bounds.
+pub fn rewrites_stand()
+    ensures turns { Rewritings }
+    ensures replaces { Replacements }
+    ensures bounds { RewriteBounds }
+{}
+
+// The steps of a rewrite, and that 87 suffice for one or two leaves of 17 pairs in all.
+pub fn costs_stand()
+    ensures leaf { LeafCost }
+    ensures rewrite { RewriteCost }
+    ensures few { CostsFew }
+{}
+
+// No rewrite for a removal makes an empty leaf.
+pub fn parity_stands()
+    ensures { NeverEmpty }
+{}
