@@ -10,27 +10,23 @@ use Rattle.leaves.proofs.BookLaws.{between}
 use Rattle.writes.specs.Writes.{finished}
 use Rattle.books.specs.Opens.{AllFine, lone}
 use Rattle.books.specs.Bounds.{Keys, AtMost, Bounded, locate}
-use Rattle.rewrites.specs.Rewrite.{Filling, leaf_numbers, contents, Fillings, rewrite_lines}
+use Rattle.rewrites.specs.Rewrite.{Filling, leaf_numbers, contents, SomePairs, Fillings, rewrite_lines}
 use Rattle.rewrites.specs.Bounds.{last_key, inner_bounds, bounds_after, RewriteBounds}
 use Rattle.books.proofs.FootprintLaws.{KeptLeaves}
 use Rattle.books.proofs.QuestionLaws.{not_back}
 use Rattle.books.proofs.BoundLaws.{Busy, all_busy, locate_more}
 use Rattle.appends.proofs.BoundsKept.{keys_kept, bounded_kept}
-use Rattle.rewrites.proofs.RewriteBook.{Filled, AllFilled, fine_drop, key_written, each_left, each_right, ascending_left, ascending_right, ascending_cross}
-use Rattle.rewrites.proofs.RewriteWords.{Small}
+use Rattle.rewrites.proofs.NewLeaves.{Filled, AllFilled, fine_drop, key_written}
+use Rattle.rewrites.proofs.KeyLists.{each_left, each_right, ascending_left, ascending_right, ascending_cross, keys_left, keys_right, keys_append}
 use Rattle.rewrites.proofs.RewriteLaws as rewritten
-use Rattle.rewrites.proofs.TakenLaws.{keys_left, keys_right, replaces, each_taken}
+use Rattle.rewrites.proofs.TakenLaws.{replaces, each_taken}
 
-pub keys_append : (P : ℕ × ℕ → Type 0) (m xs ys : List ℕ) → Keys P m xs → Keys P m ys → Keys P m (xs ++ ys)
-keys_append P m [] ys h k = k
-keys_append P m (x ∷ xs) ys h k = (h.0, keys_append P m xs ys h.1 k)
-
--- no key after the first of the bounds, if there is one
+-- No key after the first of the bounds, if there is one.
 abbrev Low : WordKind → List (ℕ × ℕ) → ℕ × ℕ → Type 0
 Low o [] x = Unit {0}
 Low o (c ∷ cs) x = o.before c x ≡ false
 
--- the last bounds part the leaves after
+-- The last bounds part the leaves after.
 abbrev Tail : WordKind → List ℕ → List ℕ → List (ℕ × ℕ) → Type 0
 Tail o m [] [] = Unit {0}
 Tail o m [] (d ∷ ds) = ⊥
@@ -50,7 +46,7 @@ module _ (o : WordKind) (ordered : WordOrdered o) where
   bounded_parts m j [] k ys c cs h = h
   bounded_parts m j (x ∷ xs) k ys c cs h = h
 
-  -- what is not after a leaf's bound is not after the next leaf's
+  -- What is not after a leaf's bound is not after the next leaf's.
   low_next : (m : List ℕ) (c : ℕ × ℕ) (l : ℕ) (ks : List ℕ) (cs : List (ℕ × ℕ)) (x : ℕ × ℕ) → 0 < count_of m l → o.before c (element m l 0).key ≡ true → Bounded o m (l ∷ ks) cs → o.before c x ≡ false → Low o cs x
   low_next m c l ks [] x some past h low = tt
   low_next m c l [] (e ∷ cs) x some past h low = absurd h
@@ -105,7 +101,7 @@ module _ (o : WordKind) (ordered : WordOrdered o) where
     last_bounded j (p ∷ ps) [] g t = t
     last_bounded j (p ∷ ps) (e ∷ es) g t = (g, t.0, t.1)
 
-    new_bounded : (f : Filling) (fs : List Filling) (ds : List (ℕ × ℕ)) → AllFilled a post (f ∷ fs) → Fillings Small (f ∷ fs) → Ascending o (contents (f ∷ fs)) → Each (λ x. Keys (λ y. o.before x y ≡ true) a post) (contents (f ∷ fs)) → Each (Low o ds) (contents (f ∷ fs)) → Tail o a post ds
+    new_bounded : (f : Filling) (fs : List Filling) (ds : List (ℕ × ℕ)) → AllFilled a post (f ∷ fs) → Fillings SomePairs (f ∷ fs) → Ascending o (contents (f ∷ fs)) → Each (λ x. Keys (λ y. o.before x y ≡ true) a post) (contents (f ∷ fs)) → Each (Low o ds) (contents (f ∷ fs)) → Tail o a post ds
         → Bounded o a (f.leaf ∷ (leaf_numbers fs ++ post)) (inner_bounds (f ∷ fs) ++ ds)
     new_bounded f [] ds filled small up below low rest = last_bounded f.leaf post ds (filled_keys (Low o ds) _ f filled.0 (each_left _ f.content [] low)) rest
     new_bounded f (g ∷ fs) ds filled small up below low rest =
@@ -130,7 +126,7 @@ module _ (o : WordKind) (ordered : WordOrdered o) where
   locate_low w (c ∷ cs) e = ⊎_elim (λ t. absurd (let z = e ∙ cond-true (o.before c w) (suc (locate o w cs)) 0 t in omega arith)) (λ f. f) (cases_Bool (o.before c w))
 
   module _ (a b : List ℕ) (k : ℕ) (more post : List ℕ) (w : ℕ × ℕ) (f : Filling) (fs : List Filling) (taken : (P : ℕ × ℕ → Type 0) → P w → Keys P b (k ∷ more) → Each P (contents (f ∷ fs)))
-      (busy : Busy b more) (kept_post : KeptLeaves a b post) (filled : AllFilled a post (f ∷ fs)) (small : Fillings Small (f ∷ fs)) (up : Ascending o (contents (f ∷ fs))) (below : Each (λ x. Keys (λ y. o.before x y ≡ true) a post) (contents (f ∷ fs))) where
+      (busy : Busy b more) (kept_post : KeptLeaves a b post) (filled : AllFilled a post (f ∷ fs)) (small : Fillings SomePairs (f ∷ fs)) (up : Ascending o (contents (f ∷ fs))) (below : Each (λ x. Keys (λ y. o.before x y ≡ true) a post) (contents (f ∷ fs))) where
     pub relinked_bounded : (pre : List ℕ) (bs : List (ℕ × ℕ)) → KeptLeaves a b pre → length pre ≡ locate o w bs → Bounded o b (pre ++ ((k ∷ more) ++ post)) bs → Bounded o a (pre ++ (leaf_numbers (f ∷ fs) ++ post)) (bounds_after (length pre) (length more) (f ∷ fs) bs)
     relinked_bounded [] bs kept at h =
         let e : 0 + length more ≡ length more = omega arith in
@@ -158,7 +154,7 @@ busy_left m (x ∷ xs) ys h = (h.0, busy_left m xs ys h.1)
 busy_row : (o : WordKind) (m pre : List ℕ) (k : ℕ) (more post : List ℕ) → AllFine o m false None (pre ++ ((k ∷ more) ++ post)) → Busy m more
 busy_row o m pre k more post h = let (x, rest) = fine_drop o m false None pre ((k ∷ more) ++ post) h in busy_left m more post (all_busy o m x ((k ∷ more) ++ post) rest).1
 
--- leaves that merge are not alone
+-- Leaves that merge are not alone.
 busy_more : (o : WordKind) (m pre : List ℕ) (k : ℕ) (more post : List ℕ) → AllFine o m (lone (pre ++ ((k ∷ more) ++ post))) None (pre ++ ((k ∷ more) ++ post)) → Busy m more
 busy_more o m pre k [] post h = tt
 busy_more o m [] k (l ∷ more) post h = busy_row o m [] k (l ∷ more) post h

@@ -1,130 +1,29 @@
--- What a cut leaves of a rewrite.
-use Rattle.std.proofs.Common.{◌≡◌, ℕ, ◌+◌, ◌<◌, ◌≤◌, true, false, ◌&&◌, eqb, ltb, leb, ◌⊎◌, List, [], ◌∷◌, ◌++◌, length, get_or, None, Ok, Option, sym, refl, ap, ◌∙◌, subst, inl, inr, ⊎_elim, arith, get_or-set_other, get_or-set_same}
-use Rattle.std.proofs.lemmas.Bool.{and_parts, and_from, or_cases, or_parts, or_from, or_left, or_right, le-leb, lt-ltb, ltb-true, leb-true, eqb-false}
+-- A replacement of leaves is a turn.
+use Rattle.std.proofs.Common.{◌≡◌, ℕ, ◌+◌, ◌<◌, ◌≤◌, true, false, ◌&&◌, ltb, leb, ◌⊎◌, List, [], ◌∷◌, ◌++◌, length, get_or, None, Ok, Option, sym, refl, ap, ◌∙◌, subst, inl, inr, ⊎_elim, arith, get_or-set_other, get_or-set_same}
+use Rattle.std.proofs.lemmas.Bool.{and_parts, or_cases, ltb-true, leb-true}
 use Rattle.keys.specs.InWords.{WordKind, WordOrdered}
 use Rattle.leaves.specs.Layout.{word, leaf_at, slot_at, count_of}
 use Rattle.leaves.specs.Opening.{member, open_answer}
-use Rattle.leaves.specs.Ascent.{Each, Ascending, all_pairs}
+use Rattle.leaves.specs.Ascent.{Each, all_pairs}
 use Rattle.leaves.proofs.AscentLaws.{each_map}
 use Rattle.writes.specs.Writes.{finished, Proper, single}
 use Rattle.writes.specs.Laws.{New, Guards}
 use Rattle.writes.proofs.Cuts.{length_finished, finished_spares, finished_last}
-use Rattle.books.specs.Footprint.{linked, book, in_leaf, in_leaves, footprint}
+use Rattle.writes.proofs.Places.{proper_append}
+use Rattle.books.specs.Footprint.{book, in_leaf, in_leaves, footprint}
 use Rattle.books.specs.Opens.{Leads, UpTo, Distinct, AllFine, lone, Opens}
 use Rattle.books.specs.Bounds.{Keys}
-use Rattle.rewrites.specs.Rewrite.{Filling, leaf_numbers, contents, leaves_lines, first_leaf, link_at, link_commit, rewrite_lines, Fillings, Replaces, Replacements}
-use Rattle.books.proofs.FootprintLaws.{holds, SameLeaves, KeptLeaf, KeptLeaves, all_pairs_kept}
-use Rattle.books.proofs.OpensLaws.{opens_from, opens_to, unlike, Apart}
-use Rattle.appends.proofs.AppendWords.{element_same}
-use Rattle.books.proofs.QuestionLaws.{all_pairs_append, linked_is}
-use Rattle.appends.proofs.AppendLaws.{told, Sized, sized, leads_same}
 use Rattle.books.proofs.BoundLaws.{all_busy}
-use Rattle.rewrites.proofs.RewriteBook.{Links, leads_relinked, leads_rest, leads_first, leads_filled, AllFilled, all_fine_busy, around, new_pairs, relinked_fine}
-use Rattle.writes.proofs.Places.{proper_append}
-use Rattle.rewrites.proofs.RewriteWords.{Off, Small, off_other, off_others, leaves_lines_spare, leaves_lines_proper, leaves_lines_filled, all_filled_set}
-
--- lists of leaves taken apart and put together
-pub member_parts : (x : ℕ) (xs ys : List ℕ) → member x (xs ++ ys) ≡ false → (member x xs ≡ false) × (member x ys ≡ false)
-member_parts x [] ys h = (refl, h)
-member_parts x (y ∷ xs) ys h =
-    let (here, more) = or_parts (eqb x y) _ h in
-    let (a, b) = member_parts x xs ys more in
-    (or_from _ _ here a, b)
-
-pub member_from : (x : ℕ) (xs ys : List ℕ) → member x xs ≡ false → member x ys ≡ false → member x (xs ++ ys) ≡ false
-member_from x [] ys h k = k
-member_from x (y ∷ xs) ys h k = let (here, more) = or_parts (eqb x y) _ h in or_from _ _ here (member_from x xs ys more k)
-
-pub distinct_split : (xs ys : List ℕ) → Distinct (xs ++ ys) → Distinct xs × Distinct ys × Apart ys xs
-distinct_split [] ys h = (tt, h, tt)
-distinct_split (x ∷ xs) ys h =
-    let (a, b) = member_parts x xs ys h.0 in
-    let (p, q, r) = distinct_split xs ys h.1 in
-    ((a, p), q, (b, r))
-
-pub distinct_join : (xs ys : List ℕ) → Distinct xs → Distinct ys → Apart ys xs → Distinct (xs ++ ys)
-distinct_join [] ys p q r = q
-distinct_join (x ∷ xs) ys p q r = (member_from x xs ys p.0 r.0, distinct_join xs ys p.1 q r.1)
-
-apart_nil : (xs : List ℕ) → Apart [] xs
-apart_nil [] = tt
-apart_nil (x ∷ xs) = (refl, apart_nil xs)
-
-apart_cons : (y : ℕ) (ys xs : List ℕ) → member y xs ≡ false → Apart ys xs → Apart (y ∷ ys) xs
-apart_cons y ys [] h k = tt
-apart_cons y ys (x ∷ xs) h k = let (here, more) = or_parts (eqb y x) _ h in (or_from _ _ (unlike y x here) k.0, apart_cons y ys xs more k.1)
-
-pub apart_swap : (xs ys : List ℕ) → Apart ys xs → Apart xs ys
-apart_swap [] ys h = apart_nil ys
-apart_swap (x ∷ xs) ys h = apart_cons x xs ys h.0 (apart_swap xs ys h.1)
-
-apart_parts : (us vs xs : List ℕ) → Apart (us ++ vs) xs → Apart us xs × Apart vs xs
-apart_parts us vs [] h = (tt, tt)
-apart_parts us vs (x ∷ xs) h =
-    let (a, b) = member_parts x us vs h.0 in
-    let (p, q) = apart_parts us vs xs h.1 in
-    ((a, p), (b, q))
-
-apart_from : (us vs xs : List ℕ) → Apart us xs → Apart vs xs → Apart (us ++ vs) xs
-apart_from us vs [] h k = tt
-apart_from us vs (x ∷ xs) h k = (member_from x us vs h.0 k.0, apart_from us vs xs h.1 k.1)
-
--- other leaves in place of some, none of them in the list before
-pub distinct_replaced : (pre old post new : List ℕ) → Distinct (pre ++ (old ++ post)) → Distinct new → Apart (pre ++ (old ++ post)) new → Distinct (pre ++ (new ++ post))
-distinct_replaced pre old post new h d free =
-    let (in_pre, in_rest, apart) = distinct_split pre (old ++ post) h in
-    let (_, in_post, _) = distinct_split old post in_rest in
-    let (_, post_pre) = apart_parts old post pre apart in
-    let (new_pre, new_rest) = apart_parts pre (old ++ post) new free in
-    let (_, new_post) = apart_parts old post new new_rest in
-    distinct_join pre (new ++ post) in_pre (distinct_join new post d in_post new_post) (apart_from new post pre (apart_swap new pre new_pre) post_pre)
-
-up_to_left : (n : ℕ) (xs ys : List ℕ) → UpTo n (xs ++ ys) → UpTo n xs
-up_to_left n [] ys h = tt
-up_to_left n (x ∷ xs) ys h = (h.0, up_to_left n xs ys h.1)
-
-up_to_right : (n : ℕ) (xs ys : List ℕ) → UpTo n (xs ++ ys) → UpTo n ys
-up_to_right n [] ys h = h
-up_to_right n (x ∷ xs) ys h = up_to_right n xs ys h.1
-
-up_to_from : (n : ℕ) (xs ys : List ℕ) → UpTo n xs → UpTo n ys → UpTo n (xs ++ ys)
-up_to_from n [] ys h k = k
-up_to_from n (x ∷ xs) ys h k = (h.0, up_to_from n xs ys h.1 k)
-
-sized_left : (m xs ys : List ℕ) → Sized m (xs ++ ys) → Sized m xs
-sized_left m [] ys h = tt
-sized_left m (x ∷ xs) ys h = (h.0, h.1, h.2, sized_left m xs ys h.3)
-
-sized_right : (m xs ys : List ℕ) → Sized m (xs ++ ys) → Sized m ys
-sized_right m [] ys h = h
-sized_right m (x ∷ xs) ys h = sized_right m xs ys h.3
-
-fillings_map : (P Q : Filling → Type 0) → ((f : Filling) → P f → Q f) → (fs : List Filling) → Fillings P fs → Fillings Q fs
-fillings_map P Q g [] h = tt
-fillings_map P Q g (f ∷ fs) h = (g f h.0, fillings_map P Q g fs h.1)
-
-free_apart : (ks : List ℕ) (fs : List Filling) → Fillings (λ f. member f.leaf ks ≡ false) fs → Apart ks (leaf_numbers fs)
-free_apart ks [] h = tt
-free_apart ks (f ∷ fs) h = (h.0, free_apart ks fs h.1)
-
-numbers_up_to : (n : ℕ) (fs : List Filling) → Fillings (λ f. (1 ≤ f.leaf) × (f.leaf ≤ n)) fs → UpTo n (leaf_numbers fs)
-numbers_up_to n [] h = tt
-numbers_up_to n (f ∷ fs) h = (h.0.1, numbers_up_to n fs h.1)
-
--- after a leaf, the linking word is the next of one of the leaves
-link_leaf : (m : List ℕ) (k : ℕ) (ks : List ℕ) → Sized m (k ∷ ks) → (p : ℕ) × (1 ≤ p) × (p ≤ word m 3) × (link_at (leaf_at k) ks ≡ leaf_at p) × (member p (k ∷ ks) ≡ false → ⊥)
-link_leaf m k [] h = (k, h.0, h.1, refl, λ e. eqb-false k k (or_parts (eqb k k) _ e).0 refl)
-link_leaf m k (j ∷ ks) h =
-    let (p, some, near, is, in_it) = link_leaf m j ks h.3 in
-    (p, some, near, is, λ e. in_it (or_parts (eqb p k) _ e).1)
-
--- where the linking word stands: in the head, or as the next of a leaf of the list
-abbrev LinkPlace : List ℕ → ℕ → List ℕ → Type 0
-LinkPlace m at ks = (link_at at ks ≡ at) ⊎ ((p : ℕ) × (1 ≤ p) × (p ≤ word m 3) × (link_at at ks ≡ leaf_at p) × (member p ks ≡ false → ⊥))
-
-link_place : (m : List ℕ) (at : ℕ) (ks : List ℕ) → Sized m ks → LinkPlace m at ks
-link_place m at [] h = inl refl
-link_place m at (k ∷ ks) h = inr (link_leaf m k ks h)
+use Rattle.books.proofs.FootprintLaws.{holds, SameLeaves, KeptLeaf, KeptLeaves, all_pairs_kept}
+use Rattle.books.proofs.QuestionLaws.{all_pairs_append, linked_is}
+use Rattle.appends.proofs.AppendWords.{element_same}
+use Rattle.appends.proofs.AppendLaws.{told, Sized, sized, leads_same}
+use Rattle.rewrites.specs.Rewrite.{Filling, leaf_numbers, contents, leaves_lines, first_leaf, link_at, link_commit, rewrite_lines, Fillings, Replaces, Replacements}
+use Rattle.books.proofs.OpensLaws.{opens_from, opens_to, Apart}
+use Rattle.rewrites.proofs.LeafLists.{member_parts, distinct_split, distinct_replaced, apart_swap, apart_parts, up_to_left, up_to_right, up_to_from, sized_left, sized_right, fillings_map, free_apart, numbers_up_to}
+use Rattle.rewrites.proofs.Links.{Links, leads_relinked, leads_rest, leads_first, link_leaf, LinkPlace, link_place, link_footprint, link_differs}
+use Rattle.rewrites.proofs.NewLeaves.{AllFilled, Fresh, leads_filled, all_fine_busy, around, new_pairs, replaced_fine}
+use Rattle.rewrites.proofs.NewWords.{Off, off_other, off_others, leaves_lines_spare, leaves_lines_proper, leaves_lines_filled, all_filled_set}
 
 off_low : (i : ℕ) (fs : List Filling) → i < 8 → Fillings (λ f. Off f.leaf i) fs
 off_low i [] h = tt
@@ -133,14 +32,6 @@ off_low i (f ∷ fs) h = (inl (omega arith), off_low i fs h)
 off_linked : (pre : List ℕ) (p i : ℕ) (fs : List Filling) → 1 ≤ p → i ≡ leaf_at p → (member p pre ≡ false → ⊥) → Fillings (λ f. 1 ≤ f.leaf) fs → Fillings (λ f. member f.leaf pre ≡ false) fs → Fillings (λ f. Off f.leaf i) fs
 off_linked pre p i [] some is in_it a b = tt
 off_linked pre p i (f ∷ fs) some is in_it a b = (off_other f.leaf p i a.0 some (λ e. in_it (rw e at b.0)) (omega arith) (omega arith), off_linked pre p i fs some is in_it a.1 b.1)
-
-link_in : (m : List ℕ) (k : ℕ) (ks rest : List ℕ) → in_leaves m ((k ∷ ks) ++ rest) (link_at (leaf_at k) ks) ≡ true
-link_in m k [] rest = or_left _ _ (or_left _ _ (and_from _ _ (le-leb (leaf_at k) (leaf_at k) (omega arith)) (lt-ltb (leaf_at k) (leaf_at k + 3) (omega arith))))
-link_in m k (j ∷ ks) rest = or_right (in_leaf m k (link_at (leaf_at j) ks)) _ (link_in m j ks rest)
-
-link_footprint : (m pre rest : List ℕ) → linked m ≡ pre ++ rest → footprint m (link_at 2 pre) ≡ true
-link_footprint m [] rest is = refl
-link_footprint m (k ∷ ks) rest is = or_right (ltb (link_at (leaf_at k) ks) 4) _ (rw is (link_in m k ks rest))
 
 leaf_inside : (m : List ℕ) (j i : ℕ) → count_of m j ≤ 16 → in_leaf m j i ≡ true → (leaf_at j ≤ i) × (i < leaf_at j + 72)
 leaf_inside m j i few h =
@@ -155,7 +46,7 @@ leaf_inside m j i few h =
     let b' = ltb-true i (slot_at j (count_of m j)) b in (omega arith, omega arith))
     (or_cases (leb (leaf_at j) i && ltb i (leaf_at j + 3)) _ h)
 
--- a word of linked leaves is off all others
+-- A word of linked leaves is off all others.
 leaves_off : (m ks : List ℕ) (fs : List Filling) (i : ℕ) → Sized m ks → Fillings (λ f. 1 ≤ f.leaf) fs → Apart (leaf_numbers fs) ks → in_leaves m ks i ≡ true → Fillings (λ f. Off f.leaf i) fs
 leaves_off m [] fs i sizes some apart h = let z : ◌≡◌ {A = ℕ} 0 1 = cc in absurd (omega arith)
 leaves_off m (j ∷ ks) fs i sizes some apart h =
@@ -163,20 +54,12 @@ leaves_off m (j ∷ ks) fs i sizes some apart h =
     (λ here. let (l, u) = leaf_inside m j i sizes.2 here in off_others j i fs sizes.0 some apart.0 l u)
     (leaves_off m ks fs i sizes.3 some apart.1) (or_cases (in_leaf m j i) _ h)
 
--- the old link names a leaf that goes, the new one a leaf that was free
-link_differs : (m : List ℕ) (link : ℕ) (pre old post : List ℕ) (fs : List Filling) → 0 < length old → 0 < length fs → Leads m link (old ++ post) → Fillings (λ f. member f.leaf (pre ++ (old ++ post)) ≡ false) fs → link ≡ first_leaf (leaf_numbers fs ++ post) → ⊥
-link_differs m link pre [] post fs a b leads free e = omega arith
-link_differs m link pre (x ∷ old) post [] a b leads free e = omega arith
-link_differs m link pre (x ∷ old) post (f ∷ fs) a b leads free e =
-    let (_, in_rest) = member_parts f.leaf pre ((x ∷ old) ++ post) free.0 in
-    eqb-false f.leaf x (or_parts (eqb f.leaf x) _ in_rest).0 (sym e ∙ leads.0)
-
-some_fine : (o : WordKind) → WordOrdered o → (a b pre post : List ℕ) (fs : List Filling) → 0 < length fs → KeptLeaves a b pre → KeptLeaves a b post → AllFine o b false None pre → (x : Option (ℕ × ℕ)) → AllFine o b false x post → AllFilled a post fs → Fillings Small fs
-    → Each (λ k. o.valid k ≡ true) (contents fs) → Ascending o (contents fs) → Each (λ k. Keys (λ y. o.before y k ≡ true) b pre) (contents fs) → Each (λ k. Keys (λ y. o.before k y ≡ true) b post) (contents fs)
+all_fine : (o : WordKind) → WordOrdered o → (a b pre post : List ℕ) (fs : List Filling) → 0 < length fs → KeptLeaves a b pre → KeptLeaves a b post
+    → AllFine o b false None pre → (x : Option (ℕ × ℕ)) → AllFine o b false x post → Fresh o a b post fs → Each (λ k. Keys (λ y. o.before y k ≡ true) b pre) (contents fs)
     → AllFine o a false None (pre ++ (leaf_numbers fs ++ post))
-some_fine o ordered a b pre post [] l kept_pre kept_post fine x rest filled sizes valid up above below = absurd (omega arith)
-some_fine o ordered a b pre post (f ∷ fs) l kept_pre kept_post fine x rest filled sizes valid up above below =
-    relinked_fine o ordered a b post kept_post x rest None pre f fs kept_pre fine filled sizes valid (each_map o _ _ (λ k _. refl) (contents (f ∷ fs)) valid) up above below
+all_fine o ordered a b pre post [] l kept_pre kept_post fine x rest new above = absurd (omega arith)
+all_fine o ordered a b pre post (f ∷ fs) l kept_pre kept_post fine x rest new above =
+    replaced_fine o ordered a b post kept_post x rest None pre f fs kept_pre fine new (each_map o _ _ (λ k _. refl) (contents (f ∷ fs)) new.valid) above
 
 some_replaced : (pre post : List ℕ) (fs : List Filling) → 0 < length fs → 0 < length (pre ++ (leaf_numbers fs ++ post))
 some_replaced [] post [] l = absurd (omega arith)
@@ -184,6 +67,13 @@ some_replaced [] post (f ∷ fs) l = omega arith
 some_replaced (k ∷ pre) post fs l = omega arith
 
 module _ (o : WordKind) (ordered : WordOrdered o) (m pre old post : List ℕ) (fs : List Filling) (r : Replaces o m pre old post fs) where
+  -- The words once all is done, and the leaves that they open to.
+  abbrev pub rewritten : List ℕ
+  rewritten = finished m (rewrite_lines pre fs post)
+
+  abbrev js : List ℕ
+  js = pre ++ (leaf_numbers fs ++ post)
+
   pub opens : Opens o m (pre ++ (old ++ post))
   opens = opens_from o m (pre ++ (old ++ post)) r.opens
 
@@ -220,37 +110,37 @@ module _ (o : WordKind) (ordered : WordOrdered o) (m pre old post : List ℕ) (f
       let long = opens.long in
       ⊎_elim (λ e. omega arith) (λ h. let a = h.1 in let b = h.2 in let c = h.3 in omega arith) place
 
-  -- the new leaves and the link aside, every word stays
-  unchanged : (i : ℕ) → Fillings (λ f. Off f.leaf i) fs → (i ≡ link_at 2 pre → ⊥) → get_or (finished m (rewrite_lines pre fs post)) i 0 ≡ get_or m i 0
+  -- The new leaves and the link aside, every word stays.
+  unchanged : (i : ℕ) → Fillings (λ f. Off f.leaf i) fs → (i ≡ link_at 2 pre → ⊥) → get_or rewritten i 0 ≡ get_or m i 0
   unchanged i off other =
       rw (finished_last m (leaves_lines fs post) (link_commit pre fs post))
       (get_or-set_other (finished m (leaves_lines fs post)) (link_at 2 pre) i _ 0 other ∙ finished_spares m (leaves_lines fs post) i (leaves_lines_spare fs post i r.placed.filled off))
 
-  link_new : word (finished m (rewrite_lines pre fs post)) (link_at 2 pre) ≡ first_leaf (leaf_numbers fs ++ post)
+  link_new : word rewritten (link_at 2 pre) ≡ first_leaf (leaf_numbers fs ++ post)
   link_new =
       let l = link_inside in
       let long = length_finished m (leaves_lines fs post) in
       rw (finished_last m (leaves_lines fs post) (link_commit pre fs post)) (get_or-set_same (finished m (leaves_lines fs post)) (link_at 2 pre) _ 0 (omega arith))
 
-  pub all_filled : AllFilled (finished m (rewrite_lines pre fs post)) post fs
+  pub all_filled : AllFilled rewritten post fs
   all_filled =
       subst (λ (x : List ℕ). AllFilled x post fs) (sym (finished_last m (leaves_lines fs post) (link_commit pre fs post)))
       (all_filled_set (finished m (leaves_lines fs post)) post fs (link_at 2 pre) _ r.placed.filled link_off (leaves_lines_filled m fs post r.placed.filled firsts inside r.placed.distinct))
 
-  -- a leaf that stays linked keeps all but perhaps its next
-  within_leaf : (j i : ℕ) → 1 ≤ j → member j (leaf_numbers fs) ≡ false → leaf_at j < i → i < leaf_at j + 72 → get_or (finished m (rewrite_lines pre fs post)) i 0 ≡ get_or m i 0
+  -- A leaf that stays linked keeps all but perhaps its next.
+  within_leaf : (j i : ℕ) → 1 ≤ j → member j (leaf_numbers fs) ≡ false → leaf_at j < i → i < leaf_at j + 72 → get_or rewritten i 0 ≡ get_or m i 0
   within_leaf j i some other l u =
       unchanged i (off_others j i fs some firsts other (omega arith) u)
       (λ e. ⊎_elim (λ z. omega arith) (λ h. let a = h.1 in let b = h.3 in omega arith) place)
 
-  kept_leaf : (j : ℕ) → 1 ≤ j → count_of m j ≤ 16 → member j (leaf_numbers fs) ≡ false → KeptLeaf (finished m (rewrite_lines pre fs post)) m j
+  kept_leaf : (j : ℕ) → 1 ≤ j → count_of m j ≤ 16 → member j (leaf_numbers fs) ≡ false → KeptLeaf rewritten m j
   kept_leaf j some few other = record {
     count = within_leaf j (leaf_at j + 1) some other (omega arith) (omega arith);
     form = within_leaf j (leaf_at j + 2) some other (omega arith) (omega arith);
-    each = λ s l. element_same j (0, 0) (finished m (rewrite_lines pre fs post)) m s (λ i a b. within_leaf j i some other (omega arith) (omega arith));
+    each = λ s l. element_same j (0, 0) rewritten m s (λ i a b. within_leaf j i some other (omega arith) (omega arith));
   }
 
-  pub kept_leaves : (js : List ℕ) → Sized m js → Apart (leaf_numbers fs) js → KeptLeaves (finished m (rewrite_lines pre fs post)) m js
+  pub kept_leaves : (js : List ℕ) → Sized m js → Apart (leaf_numbers fs) js → KeptLeaves rewritten m js
   kept_leaves [] sizes other = tt
   kept_leaves (j ∷ js) sizes other = (kept_leaf j sizes.0 sizes.2 other.0, kept_leaves js sizes.3 other.1)
 
@@ -268,8 +158,8 @@ module _ (o : WordKind) (ordered : WordOrdered o) (m pre old post : List ℕ) (f
       apart_right [] ys h = h
       apart_right (x ∷ xs) ys h = apart_right xs ys h.1
 
-  -- the leaves after the new ones keep their next too
-  same_after : (js : List ℕ) → Sized m js → Apart (leaf_numbers fs) js → Apart pre js → SameLeaves (finished m (rewrite_lines pre fs post)) m js
+  -- The leaves after the new ones keep their next too.
+  same_after : (js : List ℕ) → Sized m js → Apart (leaf_numbers fs) js → Apart pre js → SameLeaves rewritten m js
   same_after [] sizes other not_pre = tt
   same_after (j ∷ js) sizes other not_pre =
       let kept = kept_leaf j sizes.0 sizes.2 other.0 in (
@@ -283,14 +173,14 @@ module _ (o : WordKind) (ordered : WordOrdered o) (m pre old post : List ℕ) (f
         same_after js sizes.3 other.1 not_pre.1,
       )
 
-  post_same : SameLeaves (finished m (rewrite_lines pre fs post)) m post
+  post_same : SameLeaves rewritten m post
   post_same =
       let (_, _, rest_pre) = distinct_split pre (old ++ post) opens.distinct in
       same_after post post_sized post_apart (apart_swap pre post (apart_parts old post pre rest_pre).1)
 
-  -- the links before the last
+  -- The links before the last.
   links : (at : ℕ) (js : List ℕ) → link_at at js ≡ link_at 2 pre → Sized m js → Distinct js → Apart (leaf_numbers fs) js
-      → (at ≡ 2) ⊎ ((q : ℕ) × (1 ≤ q) × (at ≡ leaf_at q) × (member q js ≡ false) × (member q (leaf_numbers fs) ≡ false)) → Links (finished m (rewrite_lines pre fs post)) m at js
+      → (at ≡ 2) ⊎ ((q : ℕ) × (1 ≤ q) × (at ≡ leaf_at q) × (member q js ≡ false) × (member q (leaf_numbers fs) ≡ false)) → Links rewritten m at js
   links at [] is sizes distinct other from = tt
   links at (k ∷ js) is sizes distinct other from = (
     ⊎_elim
@@ -304,7 +194,7 @@ module _ (o : WordKind) (ordered : WordOrdered o) (m pre old post : List ℕ) (f
     links (leaf_at k) js is sizes.3 distinct.1 other.1 (inr (k, sizes.0, refl, distinct.0, other.0)),
   )
 
-  head : (i : ℕ) → i < 4 → (i ≡ 2 → ⊥) → word (finished m (rewrite_lines pre fs post)) i ≡ word m i
+  head : (i : ℕ) → i < 4 → (i ≡ 2 → ⊥) → word rewritten i ≡ word m i
   head i l n = unchanged i (off_low i fs (omega arith)) (λ e. ⊎_elim (λ z. n (e ∙ z)) (λ h. let a = h.3 in omega arith) place)
 
   tail_leads : Leads m (first_leaf post) post
@@ -312,15 +202,39 @@ module _ (o : WordKind) (ordered : WordOrdered o) (m pre old post : List ℕ) (f
       let rest = leads_rest m (link_at 2 pre) old post (leads_rest m 2 pre (old ++ post) opens.leads) in
       rw (leads_first m _ post rest) at rest
 
-  pub rewritten_opens : open_answer o (finished m (rewrite_lines pre fs post)) ≡ Ok (pre ++ (leaf_numbers fs ++ post))
+  pre_kept : KeptLeaves rewritten m pre
+  pre_kept = kept_leaves pre pre_sized pre_apart
+
+  post_kept : KeptLeaves rewritten m post
+  post_kept = kept_leaves post post_sized post_apart
+
+  pub fresh : Fresh o rewritten m post fs
+  fresh = record { filled = all_filled; sizes = r.placed.filled; valid = r.valid; up = r.ascends; below = r.below }
+
+  new_leads : Leads rewritten (word rewritten 2) js
+  new_leads =
+      let on = leads_filled rewritten post fs firsts all_filled (leads_same rewritten m (first_leaf post) post post_same tail_leads) in
+      let before = links 2 pre refl pre_sized (distinct_split pre (old ++ post) opens.distinct).0 pre_apart (inl refl) in
+      leads_relinked rewritten m 2 pre (old ++ post) (leaf_numbers fs ++ post) before opens.leads (rw link_new on)
+
+  new_within : UpTo (word m 3) js
+  new_within =
+      let here = numbers_up_to (word m 3) fs r.placed.within in
+      let after = up_to_right _ old post (up_to_right _ pre (old ++ post) opens.within) in
+      up_to_from _ pre (leaf_numbers fs ++ post) (up_to_left _ pre (old ++ post) opens.within) (up_to_from _ (leaf_numbers fs) post here after)
+
+  new_fine : AllFine o rewritten (lone js) None js
+  new_fine =
+      let (pre_fine, (x, post_fine)) = around o m pre old post r.gone opens.fine in
+      let fine = all_fine o ordered rewritten m pre post fs r.placed.some pre_kept post_kept pre_fine x post_fine fresh r.above in
+      all_fine_busy o rewritten false (lone js) None js (all_busy o rewritten None js fine) fine
+
+  pub rewritten_opens : open_answer o rewritten ≡ Ok js
   rewritten_opens =
       let h = opens in
-      let new = finished m (rewrite_lines pre fs post) in
       let long = length_finished m (rewrite_lines pre fs post) in
       let leaves = head 3 (omega arith) (λ e. omega arith) in
-      let (pre_fine, (x, post_fine)) = around o m pre old post r.gone h.fine in
-      let fine = some_fine o ordered new m pre post fs r.placed.some (kept_leaves pre pre_sized pre_apart) (kept_leaves post post_sized post_apart) pre_fine x post_fine all_filled r.placed.filled r.valid r.ascends r.above r.below in
-      opens_to o new (pre ++ (leaf_numbers fs ++ post)) (record {
+      opens_to o rewritten js (record {
         long = rw long h.long;
         mark = head 0 (omega arith) (λ e. omega arith) ∙ h.mark;
         code = head 1 (omega arith) (λ e. omega arith) ∙ h.code;
@@ -329,22 +243,19 @@ module _ (o : WordKind) (ordered : WordOrdered o) (m pre old post : List ℕ) (f
         fits = rw (long, leaves) h.fits;
         some = some_replaced pre post fs r.placed.some;
         spare = rw leaves r.placed.spare;
-        leads = leads_relinked new m 2 pre (old ++ post) (leaf_numbers fs ++ post) (links 2 pre refl pre_sized (distinct_split pre (old ++ post) h.distinct).0 pre_apart (inl refl)) h.leads (rw link_new (leads_filled new post fs firsts all_filled (leads_same new m (first_leaf post) post post_same tail_leads)));
-        within = rw leaves (up_to_from (word m 3) pre (leaf_numbers fs ++ post) (up_to_left _ pre (old ++ post) h.within) (up_to_from (word m 3) (leaf_numbers fs) post (numbers_up_to (word m 3) fs r.placed.within) (up_to_right _ old post (up_to_right _ pre (old ++ post) h.within))));
+        leads = new_leads;
+        within = rw leaves new_within;
         distinct = distinct_replaced pre old post (leaf_numbers fs) h.distinct r.placed.distinct (free_apart (pre ++ (old ++ post)) fs r.placed.free);
-        fine = all_fine_busy o new false (lone (pre ++ (leaf_numbers fs ++ post))) None (pre ++ (leaf_numbers fs ++ post)) (all_busy o new None (pre ++ (leaf_numbers fs ++ post)) fine) fine;
+        fine = new_fine;
       })
 
-  pub rewritten_book : book o (finished m (rewrite_lines pre fs post)) ≡ all_pairs o m pre ++ (contents fs ++ all_pairs o m post)
+  pub rewritten_book : book o rewritten ≡ all_pairs o m pre ++ (contents fs ++ all_pairs o m post)
   rewritten_book =
-      let new = finished m (rewrite_lines pre fs post) in
-      let (pre_fine, (x, post_fine)) = around o m pre old post r.gone opens.fine in
-      let post_kept = kept_leaves post post_sized post_apart in
-      let a = all_pairs_kept o new m pre (kept_leaves pre pre_sized pre_apart) in
-      let b = new_pairs o ordered new m post post_kept x post_fine fs all_filled r.placed.filled r.ascends in
-      let c = all_pairs_kept o new m post post_kept in
-      ap (all_pairs o new) (linked_is o ordered new (pre ++ (leaf_numbers fs ++ post)) rewritten_opens)
-      ∙ (all_pairs_append o new pre (leaf_numbers fs ++ post) ∙ (ap (λ ps. all_pairs o new pre ++ ps) (all_pairs_append o new (leaf_numbers fs) post) ∙ rw (a, b, c)))
+      let a = all_pairs_kept o rewritten m pre pre_kept in
+      let b = new_pairs o ordered rewritten m post fs fresh in
+      let c = all_pairs_kept o rewritten m post post_kept in
+      ap (all_pairs o rewritten) (linked_is o ordered rewritten js rewritten_opens)
+      ∙ (all_pairs_append o rewritten pre (leaf_numbers fs ++ post) ∙ (ap (λ ps. all_pairs o rewritten pre ++ ps) (all_pairs_append o rewritten (leaf_numbers fs) post) ∙ rw (a, b, c)))
 
   pub guards : Guards (footprint m) (leaves_lines fs post) (link_commit pre fs post)
   guards =

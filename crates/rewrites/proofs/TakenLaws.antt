@@ -15,38 +15,15 @@ use Rattle.books.specs.Bounds.{Keys}
 use Rattle.appends.specs.Append.{signed, all_applied}
 use Rattle.rewrites.specs.Rewrite.{Filling, contents, Replaces, Rewritable, Rewritings}
 use Rattle.books.proofs.OpensLaws.{opens_from}
-use Rattle.books.proofs.BoundLaws.{fine_past, keys_map}
+use Rattle.books.proofs.BoundLaws.{fine_past}
 use Rattle.books.proofs.QuestionLaws.{all_pairs_append, keys_each, linked_is}
 use Rattle.appends.proofs.AppendBook.{all_applied_between}
-use Rattle.rewrites.proofs.RewriteBook.{fine_drop, ascending_right, ascending_left}
+use Rattle.rewrites.proofs.NewLeaves.{fine_drop}
+use Rattle.rewrites.proofs.KeyLists.{ascending_right, ascending_left, keys_left, keys_right, keys_all, keys_both, keys_swap}
 use Rattle.rewrites.proofs.RewriteLaws as laws
 
-module _ (m : List ℕ) where
-  pub keys_left : (P : ℕ × ℕ → Type 0) (xs ys : List ℕ) → Keys P m (xs ++ ys) → Keys P m xs
-  keys_left P [] ys h = tt
-  keys_left P (x ∷ xs) ys h = (h.0, keys_left P xs ys h.1)
-
-  pub keys_right : (P : ℕ × ℕ → Type 0) (xs ys : List ℕ) → Keys P m (xs ++ ys) → Keys P m ys
-  keys_right P [] ys h = h
-  keys_right P (x ∷ xs) ys h = keys_right P xs ys h.1
-
-  keys_all : (P : ℕ × ℕ → Type 0) → ((x : ℕ × ℕ) → P x) → (ks : List ℕ) → Keys P m ks
-  keys_all P f [] = tt
-  keys_all P f (k ∷ ks) = (λ s l. f (element m k s).key, keys_all P f ks)
-
-  keys_both : (P Q R : ℕ × ℕ → Type 0) → ((x : ℕ × ℕ) → P x → Q x → R x) → (ks : List ℕ) → Keys P m ks → Keys Q m ks → Keys R m ks
-  keys_both P Q R f [] h k = tt
-  keys_both P Q R f (j ∷ ks) h k = (λ s l. f (element m j s).key (h.0 s l) (k.0 s l), keys_both P Q R f ks h.1 k.1)
-
-  keys_swap : (R : ℕ × ℕ → ℕ × ℕ → Type 0) (xs ys : List ℕ) → Keys (λ y. Keys (λ x. R x y) m xs) m ys → Keys (λ x. Keys (λ y. R x y) m ys) m xs
-  keys_swap R [] ys h = tt
-  keys_swap R (k ∷ xs) ys h = (
-    λ s l. keys_map m (λ y. Keys (λ x. R x y) m (k ∷ xs)) (R (element m k s).key) (λ y e. e.0 s l) ys h,
-    keys_swap R xs ys (keys_map m (λ y. Keys (λ x. R x y) m (k ∷ xs)) (λ y. Keys (λ x. R x y) m xs) (λ y e. e.1) ys h),
-  )
-
 module _ (o : WordKind) (ordered : WordOrdered o) (m : List ℕ) where
-  -- every counted key of the first leaves is before every one of the others
+  -- Every counted key of the first leaves is before every one of the others.
   pub keys_cross : (bound : Option (ℕ × ℕ)) (xs ys : List ℕ) → AllFine o m false bound (xs ++ ys) → Keys (λ y. Keys (λ x. o.before x y ≡ true) m xs) m ys
   keys_cross bound [] ys h = keys_all m _ (λ y. tt) ys
   keys_cross bound (k ∷ xs) ys h =
@@ -70,7 +47,7 @@ module _ (o : WordKind) (ordered : WordOrdered o) (m : List ℕ) where
   ascending_applied w (x ∷ xs) ps h =
       ascending_applied w xs (applied o (signed w x) ps) (cond_both (eqb x.0 1) _ _ (Ascending o) (λ _. ascending_insert o ordered _ ps h) (λ _. ascending_delete o ordered w ps h))
 
--- the order of counted keys around leaf k and the leaves that merge with it
+-- The order of counted keys around leaf k and the leaves that merge with it.
 record Parted (o : WordKind) (m pre : List ℕ) (k : ℕ) (more post : List ℕ) : Type 0 where
   above : Keys (λ x. Keys (λ y. o.before y x ≡ true) m pre) m (k ∷ more)
   below : Keys (λ x. Keys (λ y. o.before x y ≡ true) m post) m (k ∷ more)
@@ -100,7 +77,7 @@ module _ (o : WordKind) (ordered : WordOrdered o) (m : List ℕ) where
     order : Parted o m pre k more post
     order = parted pre k more post opens.fine
 
-    -- what holds of w and of all old keys of the leaves that go holds of all that the new leaves take
+    -- What holds of w and of all old keys of the leaves that go holds of all that the new leaves take.
     pub each_taken : (P : ℕ × ℕ → Type 0) → P w → Keys P m (k ∷ more) → Each P (contents fs)
     each_taken P at h =
         rw r.taken (each_append o ordered m P (all_applied o w xs (pairs o m k (count_of m k))) (all_pairs o m more)
@@ -135,7 +112,7 @@ module _ (o : WordKind) (ordered : WordOrdered o) (m : List ℕ) where
           below = each_taken (λ x. Keys (λ y. o.before x y ≡ true) m post) (keys_right m (λ y. o.before w y ≡ true) more post r.belongs.below) order.below;
         }
 
-    -- the elements work on the pairs of leaf k alone
+    -- The elements work on the pairs of leaf k alone.
     pub book_taken : all_pairs o m pre ++ (contents fs ++ all_pairs o m post) ≡ all_applied o w xs (book o m)
     book_taken =
         let here = pairs o m k (count_of m k) in

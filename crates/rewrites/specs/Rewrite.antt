@@ -71,10 +71,14 @@ abbrev pub Fillings : (Filling → Type 0) → List Filling → Type 0
 Fillings P [] = Unit {0}
 Fillings P (f ∷ fs) = P f × Fillings P fs
 
--- New leaves, one at least, can come between some leaves and others: none is empty or too full, all were free until now, and one leaf stays free.
+-- A new leaf has some pairs, and no more than slots.
+abbrev pub SomePairs : Filling → Type 0
+SomePairs f = (0 < length f.content) × (length f.content ≤ 16)
+
+-- New leaves, one at least, can come between some leaves and others: all were free until now, and one leaf stays free.
 pub record Placed (m pre old post : List ℕ) (fs : List Filling) : Type 0 where
   pub some : 0 < length fs
-  pub filled : Fillings (λ f. (0 < length f.content) × (length f.content ≤ 16)) fs
+  pub filled : Fillings SomePairs fs
   pub spare : length (pre ++ (leaf_numbers fs ++ post)) < word m 3
   pub within : Fillings (λ f. (1 ≤ f.leaf) × (f.leaf ≤ word m 3)) fs
   pub free : Fillings (λ f. member f.leaf (pre ++ (old ++ post)) ≡ false) fs
@@ -90,7 +94,7 @@ pub record Replaces (o : WordKind) (m pre old post : List ℕ) (fs : List Fillin
   pub above : Each (λ x. Keys (λ y. o.before y x ≡ true) m pre) (contents fs)
   pub below : Each (λ x. Keys (λ y. o.before x y ≡ true) m post) (contents fs)
 
--- Then the book has their pairs in place of those of the old leaves.
+-- Such a replacement is a turn: the book has the pairs of the new leaves in place of those of the old ones.
 abbrev pub Replacements : Type 0
 Replacements =
     (o : WordKind) → WordOrdered o → (m pre old post : List ℕ) (fs : List Filling) → Replaces o m pre old post fs →

@@ -10,11 +10,11 @@ use Rattle.writes.proofs.Cuts.{length_finished, finished_spares}
 use Rattle.writes.proofs.Places.{row_spared, row_spared_after, row_lined, row_made, spares_append, proper_append, finished_append}
 use Rattle.books.specs.Opens.{Distinct}
 use Rattle.appends.specs.Append.{signed}
-use Rattle.rewrites.specs.Rewrite.{Filling, leaf_numbers, pair_words, pair_lines, leaf_lines, leaves_lines, first_leaf, Fillings}
+use Rattle.rewrites.specs.Rewrite.{Filling, leaf_numbers, pair_words, pair_lines, leaf_lines, leaves_lines, first_leaf, SomePairs, Fillings}
 use Rattle.appends.proofs.AppendWords.{Clear, made_of, one_stands, element_same}
-use Rattle.rewrites.proofs.RewriteBook.{Written, Filled, AllFilled}
+use Rattle.rewrites.proofs.NewLeaves.{Written, Filled, AllFilled}
 
--- outside leaf k
+-- Outside leaf k.
 abbrev pub Off : ℕ → ℕ → Type 0
 Off k i = (i < leaf_at k) ⊎ (leaf_at k + 72 ≤ i)
 
@@ -68,7 +68,7 @@ module _ (k : ℕ) where
       let n : length (pair_words p ++ pair_words q) ≡ 8 = refl in
       (omega arith, row_lined size (slot_at k s / 8) (slot_at k s) (pair_words p ++ pair_words q) (omega arith) (omega arith) (omega arith), pair_lines_proper size (s + 2) (h + 1) ps (omega arith) (omega arith))
 
--- one new leaf
+-- One new leaf.
 module _ (next : ℕ) (f : Filling) (few : length f.content ≤ 16) where
   leaf_lines_spare : (i : ℕ) → Off f.leaf i → Spares i (leaf_lines next f)
   leaf_lines_spare i h =
@@ -109,18 +109,15 @@ module _ (next : ℕ) (f : Filling) (few : length f.content ≤ 16) where
     written = written_same f.leaf a b 0 f.content (λ i l u. same i (omega arith) (omega arith)) h.written;
   }
 
-abbrev pub Small : Filling → Type 0
-Small f = (0 < length f.content) × (length f.content ≤ 16)
-
-pub leaves_lines_spare : (fs : List Filling) (post : List ℕ) (i : ℕ) → Fillings Small fs → Fillings (λ f. Off f.leaf i) fs → Spares i (leaves_lines fs post)
+pub leaves_lines_spare : (fs : List Filling) (post : List ℕ) (i : ℕ) → Fillings SomePairs fs → Fillings (λ f. Off f.leaf i) fs → Spares i (leaves_lines fs post)
 leaves_lines_spare [] post i few h = tt
 leaves_lines_spare (f ∷ fs) post i few h = spares_append i (leaf_lines (first_leaf (leaf_numbers fs ++ post)) f) (leaves_lines fs post) (leaf_lines_spare _ f few.0.1 i h.0) (leaves_lines_spare fs post i few.1 h.1)
 
-pub leaves_lines_proper : (size : ℕ) (fs : List Filling) (post : List ℕ) → Fillings Small fs → Fillings (λ f. leaf_at f.leaf + 72 ≤ size) fs → Proper size (leaves_lines fs post)
+pub leaves_lines_proper : (size : ℕ) (fs : List Filling) (post : List ℕ) → Fillings SomePairs fs → Fillings (λ f. leaf_at f.leaf + 72 ≤ size) fs → Proper size (leaves_lines fs post)
 leaves_lines_proper size [] post few h = tt
 leaves_lines_proper size (f ∷ fs) post few h = proper_append size (leaf_lines (first_leaf (leaf_numbers fs ++ post)) f) (leaves_lines fs post) (leaf_lines_proper _ f few.0.1 size h.0) (leaves_lines_proper size fs post few.1 h.1)
 
--- the words of one leaf are off another
+-- The words of one leaf are off another.
 pub off_other : (k j i : ℕ) → 1 ≤ k → 1 ≤ j → (k ≡ j → ⊥) → leaf_at j ≤ i → i < leaf_at j + 72 → Off k i
 off_other k j i a b other l u = ⊎_elim (λ less. inr (omega arith)) (λ more. inl (omega arith)) (cases_lt k j)
 
@@ -130,7 +127,7 @@ off_others j i (f ∷ fs) a b other l u =
     let (here, more) = or_parts (eqb j f.leaf) _ other in
     (off_other f.leaf j i b.0 a (λ e. eqb-false j f.leaf here (sym e)) l u, off_others j i fs a b.1 more l u)
 
-pub leaves_lines_filled : (m : List ℕ) (fs : List Filling) (post : List ℕ) → Fillings Small fs → Fillings (λ f. 1 ≤ f.leaf) fs → Fillings (λ f. leaf_at f.leaf + 72 ≤ length m) fs → Distinct (leaf_numbers fs) → AllFilled (finished m (leaves_lines fs post)) post fs
+pub leaves_lines_filled : (m : List ℕ) (fs : List Filling) (post : List ℕ) → Fillings SomePairs fs → Fillings (λ f. 1 ≤ f.leaf) fs → Fillings (λ f. leaf_at f.leaf + 72 ≤ length m) fs → Distinct (leaf_numbers fs) → AllFilled (finished m (leaves_lines fs post)) post fs
 leaves_lines_filled m [] post few some inside distinct = tt
 leaves_lines_filled m (f ∷ fs) post few some inside distinct =
     let next = first_leaf (leaf_numbers fs ++ post) in
@@ -142,8 +139,8 @@ leaves_lines_filled m (f ∷ fs) post few some inside distinct =
       leaves_lines_filled m' fs post few.1 some.1 (rw long inside.1) distinct.1,
     )
 
--- a store off the new leaves
-pub all_filled_set : (b post : List ℕ) (fs : List Filling) (i w : ℕ) → Fillings Small fs → Fillings (λ f. Off f.leaf i) fs → AllFilled b post fs → AllFilled (set b i w) post fs
+-- A store off the new leaves.
+pub all_filled_set : (b post : List ℕ) (fs : List Filling) (i w : ℕ) → Fillings SomePairs fs → Fillings (λ f. Off f.leaf i) fs → AllFilled b post fs → AllFilled (set b i w) post fs
 all_filled_set b post [] i w few off h = tt
 all_filled_set b post (f ∷ fs) i w few off h = (
   filled_same _ f few.0.1 (set b i w) b (λ j l u. get_or-set_other b i j w 0 (λ e. ⊎_elim (λ x. omega arith) (λ y. omega arith) off.0)) h.0,
