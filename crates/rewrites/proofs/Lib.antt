@@ -3,7 +3,7 @@ pub mod CostLaws
 pub mod ParityLaws
 pub mod LeafLists
 pub mod KeyLists
-pub mod Links
+pub mod LinkLaws
 pub mod NewLeaves
 pub mod NewWords
 pub mod RewriteLaws
