@@ -1,0 +1,11 @@
+pub mod CodeLaws
+pub mod CostLaws
+pub mod ParityLaws
+pub mod LeafLists
+pub mod KeyLists
+pub mod Links
+pub mod NewLeaves
+pub mod NewWords
+pub mod RewriteLaws
+pub mod TakenLaws
+pub mod BoundLaws

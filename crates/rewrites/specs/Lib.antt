@@ -1,0 +1,3 @@
+pub mod Rewrite
+pub mod Bounds
+pub mod Parity
