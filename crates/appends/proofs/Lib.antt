@@ -4,3 +4,4 @@ pub mod AppendLaws
 pub mod BoundsKept
 pub mod CallLaws
 pub mod ParityLaws
+pub mod Writing

@@ -1,6 +1,6 @@
 -- A leaf has as many pairs as elements, less an even number.
-use Rattle.std.proofs.Common.{◌≡◌, ℕ, zero, suc, ◌%◌, ◌<◌, true, ◌&&◌, eqb, ◌⊎◌, List, [], ◌∷◌, length, Some, None, Option, sym, refl, ap, ◌∙◌, subst, inl, inr, ⊎_elim, arith}
-use Rattle.std.proofs.lemmas.Bool.{cases_Bool, cond-true, cond-false, and_parts, eqb-true, ne_eqb, both_ways}
+use Rattle.std.proofs.Common.{◌≡◌, ℕ, zero, suc, ◌%◌, ◌<◌, true, ◌&&◌, ◌⊎◌, List, [], ◌∷◌, length, Some, None, Option, sym, refl, ◌∙◌, subst, inl, inr, ⊎_elim, arith}
+use Rattle.std.proofs.lemmas.Bool.{cases_Bool, cond-false, and_parts}
 use Rattle.keys.specs.InWords.{WordKind, WordOrdered}
 use Rattle.leaves.specs.declared.leaf.Element.{Element}
 use Rattle.leaves.specs.declared.leaf.Pair.{Pair}
@@ -19,15 +19,9 @@ module _ (o : WordKind) (ordered : WordOrdered o) where
   pub length_insert : (q : Pair) (ps : List Pair) → lookup q.key ps ≡ None → length (insert o q ps) ≡ suc (length ps)
   length_insert q [] h = refl
   length_insert q (p ∷ ps) h =
-      ⊎_elim (λ same. some_none (cond-true (equal p.key q.key) (Some p.reading) _ same) h)
-      (λ other.
-      let more = length_insert q ps (sym (cond-false (equal p.key q.key) _ _ other) ∙ h) in
-      ⊎_elim (λ less. ap length (cond-true (o.before p.key q.key) _ _ less) ∙ ap suc more)
-      (λ le. ap length (cond-false (o.before p.key q.key) _ _ le)
-      ∙ ⊎_elim (λ greater. ap (λ (xs : List Pair). suc (length xs)) (cond-true (o.before q.key p.key) (p ∷ ps) ps greater))
-      (λ ge. absurd (both_ways _ other (subst (λ x. equal p.key x ≡ true) (ordered.connected p.key q.key le ge) (equal_self p.key)))) (cases_Bool (o.before q.key p.key)))
-      (cases_Bool (o.before p.key q.key)))
-      (cases_Bool (equal p.key q.key))
+      let more = length_insert q ps in
+      let tied = ordered.connected p.key q.key in
+      let self = equal_self q.key in grind arith
 
   pub length_delete : (w : ℕ × ℕ) (v : ℕ) (ps : List Pair) → Ascending o ps → lookup w ps ≡ Some v → suc (length (delete w ps)) ≡ length ps
   length_delete w v [] up h = some_none h refl
@@ -41,10 +35,8 @@ module _ (o : WordKind) (ordered : WordOrdered o) where
 
   -- one good element more changes the number of pairs by one
   pub one_more : (e : Element) (ps : List Pair) → Ascending o ps → (r : Option ℕ) → lookup e.key ps ≡ r → sign_fits e.sign e.reading r ≡ true → (length (applied o e ps) ≡ suc (length ps)) ⊎ (suc (length (applied o e ps)) ≡ length ps)
-  one_more e ps up None is fits = inl (ap length (cond-true (eqb e.sign 1) _ _ fits) ∙ length_insert _ ps is)
-  one_more e ps up (Some v) is fits =
-      let two : e.sign ≡ 2 = eqb-true e.sign 2 (and_parts (eqb e.sign 2) _ fits).0 in
-      inr (ap (λ (xs : List Pair). suc (length xs)) (cond-false (eqb e.sign 1) _ _ (ne_eqb e.sign 1 (λ z. omega arith))) ∙ length_delete e.key v ps up is)
+  one_more e ps up None is fits = let more = length_insert (record { key = e.key; reading = e.reading }) ps is in inl (grind arith)
+  one_more e ps up (Some v) is fits = let less = length_delete e.key v ps up is in inr (grind arith)
 
   pub alternates : (m : List ℕ) (bound : Option (ℕ × ℕ)) (k n : ℕ) → ((s : ℕ) → s < n → good o bound (pairs o m k s) (element m k s) ≡ true) → length (pairs o m k n) % 2 ≡ n % 2
   alternates m bound k zero each = refl
