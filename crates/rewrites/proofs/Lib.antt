@@ -9,3 +9,4 @@ pub mod NewWords
 pub mod RewriteLaws
 pub mod TakenLaws
 pub mod BoundLaws
+pub mod ExampleLaws

@@ -7,6 +7,7 @@ ghost use Rattle.refusal.specs.declared.Refusal.TheVariants.{Outside};
 ghost use Rattle.fixed_vec.specs.Items.{items};
 ghost use Rattle.writes.specs.Writes.{onward, outcome, perform, single};
 ghost use Rattle.rewrites.specs.Bounds.{RewriteBounds};
+ghost use Rattle.rewrites.specs.Example.{Example};
 ghost use Rattle.rewrites.specs.Parity.{NeverEmpty};
 ghost use Rattle.rewrites.specs.Rewrite.{CostsFew, LeafCost, Replacements, RewriteCost, Rewritings, leaf_lines, leaf_steps, pair_words};
 
@@ -84,4 +85,9 @@ pub fn costs_stand()
 // A removal never makes an empty leaf.
 pub fn removals_stand()
     ensures { NeverEmpty }
+{}
+
+// What the laws of appends and of rewrites ask for can be met.
+pub fn example_stands()
+    ensures { Example }
 {}
