@@ -1,0 +1,51 @@
+-- The words of a leaf's pairs in lines of eight, and the line writes of a leaf in two parts.
+use Rattle.std.proofs.Common.{◌≡◌, ℕ, suc, ◌+◌, ◌*◌, ◌<◌, ◌≤◌, List, [], ◌∷◌, ◌++◌, length, length-take, take, true, cond, leb, Ok, Err, Result, refl, ap, ◌∙◌, arith, rules}
+use Rattle.std.specs.Prelude.{flat_map}
+use Rattle.std.specs.Result.{IsOk}
+use Rattle.fixed_vec.specs.declared.list.Full.{Full}
+use Rattle.std.proofs.lemmas.Bool.{le-leb}
+use Rattle.refusal.specs.declared.Refusal.{Refusal}
+use Rattle.memory.specs.Meaning.{Words}
+use Rattle.leaves.specs.declared.leaf.Pair.{Pair}
+use Rattle.leaves.specs.Layout.{leaf_at, slot_at}
+use Rattle.writes.specs.Writes.{Answer, LineWrite, row, rows, lines_for, outcome, onward, perform}
+use Rattle.writes.proofs.Onward.{counted_done, counted_stop}
+use Rattle.rewrites.specs.Rewrite.{pair_words, pair_lines, leaf_lines, leaf_steps}
+
+pub length_words : (ps : List Pair) → length (flat_map pair_words ps) ≡ 4 * length ps
+length_words [] = omega arith
+length_words (p ∷ ps) = omega (arith, length_words ps)
+
+-- A list of 64 words has room for the words of one pair more.
+pub words_room : {r : Result (Unit {0}) Full} {ws : List ℕ} (ps : List Pair) (i : ℕ) → r ≡ cond (leb (length ws + 4) 64) (Ok tt) (Err (record {}))
+    → ws ≡ flat_map pair_words (take i ps) → i < length ps → length ps ≤ 16 → IsOk r
+words_room {ws = ws} ps i answer is front few =
+    let full : leb (length ws + 4) 64 ≡ true = le-leb (length ws + 4) 64 (omega (arith, ap length is, length_words (take i ps), length-take i ps)) in
+    search rules
+
+words_in_lines : (k s : ℕ) (ps : List Pair) → rows (lines_for (length (flat_map pair_words ps))) (slot_at k s) (flat_map pair_words ps) ≡ pair_lines k s ps
+words_in_lines k s [] = refl
+words_in_lines k s (p ∷ []) = refl
+words_in_lines k s (p ∷ q ∷ ps) =
+    let ws = flat_map pair_words ps in
+    let one : lines_for (length (flat_map pair_words (p ∷ q ∷ ps))) ≡ suc (lines_for (length ws)) = omega arith in
+    let on : slot_at k s + 8 ≡ slot_at k (s + 2) = omega arith in
+    rw (one, on) (ap (λ (x : List LineWrite). row (slot_at k s) (pair_words p ++ pair_words q) ∷ x) (words_in_lines k (s + 2) ps))
+
+-- How many words the pairs have, and the steps of a leaf.
+pub words_long : (ps : List Pair) (ws : List ℕ) → ws ≡ flat_map pair_words ps → (length ws ≡ 4 * length ps) × (length ws + lines_for (length ws) + 4 ≡ leaf_steps (length ps))
+words_long ps ws e = let long : length ws ≡ 4 * length ps = ap length e ∙ length_words ps in (long, omega arith)
+
+-- The words of the pairs, written from slot 0 of leaf k on, and then its first line.
+module _ (m n : Words) (before after k next at : ℕ) (ps : List Pair) (ws : List ℕ) (is : ws ≡ flat_map pair_words ps) (there : at ≡ slot_at k 0) where
+  lines : rows (lines_for (length ws)) at ws ≡ pair_lines k 0 ps
+  lines = rw (there, is) (words_in_lines k 0 ps)
+
+  pub leaf_stopped : {x : Refusal} → outcome n after (Err x) ≡ onward before (perform m (rows (lines_for (length ws)) at ws))
+      → outcome n after (Err x) ≡ onward before (perform m (leaf_lines next (record { leaf = k; content = ps })))
+  leaf_stopped {x = x} h = counted_stop m n before after (pair_lines k 0 ps) _ x (rw lines at h)
+
+  pub leaf_ended : (last : Words) (end : ℕ) (a : Answer) → outcome n after (Ok tt) ≡ onward before (perform m (rows (lines_for (length ws)) at ws))
+      → outcome last end a ≡ onward after (perform n (row (leaf_at k) (next ∷ length ps ∷ 0 ∷ []) ∷ []))
+      → outcome last end a ≡ onward before (perform m (leaf_lines next (record { leaf = k; content = ps })))
+  leaf_ended last end a h e = counted_done m n before after (pair_lines k 0 ps) (row (leaf_at k) (next ∷ length ps ∷ 0 ∷ []) ∷ []) (outcome last end a) (rw lines at h) e
