@@ -2,6 +2,9 @@
 use Rattle.std.specs.Prelude.{ℕ, ◌+◌, ◌*◌, cond, ◌||◌, List, length, Ok, Err, Result, nat_lt}
 use Rattle.refusal.specs.declared.Refusal.{Refusal}
 use Rattle.refusal.specs.declared.Refusal.TheVariants.{Outside, BadLeaf}
+use Rattle.fixed_vec.specs.declared.FixedVec.{FixedVec}
+use Rattle.fixed_vec.specs.Items.{items}
+use Rattle.leaves.specs.declared.leaf.Element.{Element}
 use Rattle.leaves.specs.Layout.{count_of}
 
 -- The count of leaf k, if the leaf is one of 1 to 64 within the memory and counts at most 16 slots.
@@ -17,3 +20,8 @@ granted (Err e) say = Err e
 
 abbrev pub counted : {X : Type 0} → List ℕ → ℕ → (ℕ → X) → Result X Refusal
 counted m k say = granted (count_answer m k) say
+
+-- An answer with elements as a list.
+abbrev pub elements_told : Result (FixedVec Element 16) Refusal → Result (List Element) Refusal
+elements_told (Ok es) = Ok (items es)
+elements_told (Err e) = Err e

@@ -1,5 +1,6 @@
 // One leaf of the tree.
 pub mod ask;
+pub mod change;
 pub mod check;
 pub mod read;
 pub mod sorted;
@@ -21,7 +22,7 @@ pub struct Pair {
 }
 
 // The oldest elements of a leaf, in the order in which they were written.
-pub(crate) type Elements = FixedVec<Element, 16>;
+pub type Elements = FixedVec<Element, 16>;
 
 // Pairs in the order of their keys: those of a leaf, and one more.
 pub type Run = FixedVec<Pair, 17>;

@@ -2,10 +2,11 @@
 ghost use Rattle.std.specs.Prelude.{◌≡◌, length};
 ghost use Rattle.keys.specs.InWords.{in_words};
 ghost use Rattle.leaves.specs.Opening.{greatest as greatest_of};
-ghost use Rattle.leaves.specs.Asking.{count_answer, counted};
+ghost use Rattle.leaves.specs.Asking.{count_answer, counted, elements_told};
+ghost use Rattle.leaves.specs.Layout.{elements as elements_of};
 ghost use Rattle.leaves.specs.Pairs.{first_after, lookup, pairs};
 
-use super::Pair;
+use super::{Elements, Pair};
 use crate::leaf::check::greatest;
 use crate::leaf::read::{elements, find, start_of, word_at};
 use crate::leaf::sorted::{load, next};
@@ -28,6 +29,15 @@ pub fn count_in<M: Memory>(memory: &mut M, leaf: usize) -> Result<usize, Refusal
     Ok(count as usize)
 }
 
+// The counted elements of the leaf, each of their words read once.
+pub fn elements_in<M: Memory>(memory: &mut M, leaf: usize) -> Result<Elements, Refusal>
+    ensures same { M.Memory.meaning memory.new ≡ M.Memory.meaning memory.old }
+    ensures value { elements_told result ≡ counted (M.Memory.meaning memory.old).live leaf (elements_of (M.Memory.meaning memory.old).live leaf) }
+{
+    let count = count_in(memory, leaf)?;
+    Ok(elements(memory, leaf, count))
+}
+
 // The reading of a key, if the leaf has its pair.
 pub fn find_in<K: Key, M: Memory>(
     memory: &mut M,
@@ -37,8 +47,7 @@ pub fn find_in<K: Key, M: Memory>(
     ensures same { M.Memory.meaning memory.new ≡ M.Memory.meaning memory.old }
     ensures value { result ≡ counted (M.Memory.meaning memory.old).live leaf (λ n. lookup key (pairs (in_words K.Key.kind) (M.Memory.meaning memory.old).live leaf n)) }
 {
-    let count = count_in(memory, leaf)?;
-    let elements = elements(memory, leaf, count);
+    let elements = elements_in(memory, leaf)?;
     Ok(find(elements.as_slice(), key))
 }
 
@@ -51,8 +60,7 @@ pub fn next_in<K: Key, M: Memory>(
     ensures same { M.Memory.meaning memory.new ≡ M.Memory.meaning memory.old }
     ensures value { result ≡ counted (M.Memory.meaning memory.old).live leaf (λ n. first_after (in_words K.Key.kind) key (pairs (in_words K.Key.kind) (M.Memory.meaning memory.old).live leaf n)) }
 {
-    let count = count_in(memory, leaf)?;
-    let elements = elements(memory, leaf, count);
+    let elements = elements_in(memory, leaf)?;
     let run = load::<K>(&elements);
     Ok(next::<K>(run.as_slice(), key))
 }
@@ -62,8 +70,7 @@ pub fn pairs_in<K: Key, M: Memory>(memory: &mut M, leaf: usize) -> Result<usize,
     ensures same { M.Memory.meaning memory.new ≡ M.Memory.meaning memory.old }
     ensures value { result ≡ counted (M.Memory.meaning memory.old).live leaf (λ n. length (pairs (in_words K.Key.kind) (M.Memory.meaning memory.old).live leaf n)) }
 {
-    let count = count_in(memory, leaf)?;
-    let elements = elements(memory, leaf, count);
+    let elements = elements_in(memory, leaf)?;
     let run = load::<K>(&elements);
     Ok(run.len())
 }
@@ -76,7 +83,6 @@ pub fn greatest_in<K: Key, M: Memory>(
     ensures same { M.Memory.meaning memory.new ≡ M.Memory.meaning memory.old }
     ensures value { result ≡ counted (M.Memory.meaning memory.old).live leaf (greatest_of (in_words K.Key.kind) (M.Memory.meaning memory.old).live leaf) }
 {
-    let count = count_in(memory, leaf)?;
-    let elements = elements(memory, leaf, count);
+    let elements = elements_in(memory, leaf)?;
     Ok(greatest::<K>(elements.as_slice()))
 }

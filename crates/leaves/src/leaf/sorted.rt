@@ -16,7 +16,7 @@ fn empty() -> Run
 }
 
 // The pairs without the key's.
-fn deleted(run: &Run, key: (u64, u64)) -> Run
+pub(crate) fn deleted(run: &Run, key: (u64, u64)) -> Run
     ensures { items result ≡ delete key (items run.now) }
 {
     let mut out = empty();
@@ -49,7 +49,7 @@ fn past_key<K: Key>(pairs: &[Pair], key: (u64, u64)) -> &[Pair]
 }
 
 // The pairs with this one in its place.
-fn inserted<K: Key>(run: &Run, pair: Pair) -> Run
+pub(crate) fn inserted<K: Key>(run: &Run, pair: Pair) -> Run
     requires { length (items run.now) ≤ 16 }
     ensures { items result ≡ insert (in_words K.Key.kind) pair (items run.now) }
 {
@@ -82,7 +82,8 @@ fn applied<K: Key>(run: &Run, e: Element) -> Run
 
 // The pairs that the elements come to.
 pub(crate) fn load<K: Key>(elements: &Elements) -> Run
-    ensures { items result ≡ folded (in_words K.Key.kind) [] (items elements.now) }
+    ensures value { items result ≡ folded (in_words K.Key.kind) [] (items elements.now) }
+    ensures fits { length (items result) ≤ 16 }
 {
     let mut run = empty();
     for e in elements.as_slice() {

@@ -1,7 +1,16 @@
-use Rattle.std.proofs.Common.{arith}
+use Rattle.keys.specs.InWords.{in_words}
+use Rattle.std.proofs.Common.{[], length, length-take, take, ap, arith}
+use Rattle.fixed_vec.specs.Items.{items}
 use Rattle.std.proofs.lemmas.Grind.{common_steps}
 use Rattle.leaves.proofs.RunLaws.{length_folded}
 use Rattle.leaves.proofs.leaf.sorted.load.Goals as goal
 
 pub applied-run-requires : goal.applied-run-requires
 applied-run-requires g c = grind (arith, common_steps, length_folded)
+
+pub returns-clause-fits : goal.returns-clause-fits
+returns-clause-fits g c =
+    let l = c.loop-e in
+    let few = length_folded (in_words g.K.Key.kind) [] (take l.e-index (items c.args.elements.now)) in
+    let front = length-take l.e-index (items c.args.elements.now) in
+    omega (arith, ap length l.invariant, ap length c.as_slice-e-items.ensures.value, c.as_slice-e-items.ensures.fits)
