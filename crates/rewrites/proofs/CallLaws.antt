@@ -1,10 +1,11 @@
 -- The code of a rewrite into one or two new leaves makes the line writes of that rewrite.
-use Rattle.std.proofs.Common.{◌≡◌, ℕ, ◌-◌, ◌≤◌, true, List, [], ◌∷◌, ◌++◌, sym, refl, append_assoc, arith}
-use Rattle.std.proofs.lemmas.List.{append-nil}
+use Rattle.std.proofs.Common.{◌≡◌, ℕ, ◌-◌, ◌≤◌, true, List, [], ◌∷◌, ◌++◌, take, drop, sym, refl, append_assoc, arith}
+use Rattle.std.proofs.lemmas.List.{append-nil, take-append-drop}
 use Rattle.std.proofs.lemmas.Bool.Decides.{nat_tests}
+use Rattle.leaves.specs.declared.leaf.Pair.{Pair}
 use Rattle.leaves.specs.Layout.{leaf_at}
 use Rattle.writes.specs.Writes.{single}
-use Rattle.rewrites.specs.Rewrite.{Filling, first_leaf, leaf_lines, link_at, rewrite_lines}
+use Rattle.rewrites.specs.Rewrite.{Filling, contents, first_leaf, leaf_lines, link_at, rewrite_lines}
 use Rattle.rewrites.specs.Shares.{shared}
 
 -- The word that links what comes after one leaf more.
@@ -19,6 +20,14 @@ module _ (pre post : List ℕ) {at next : ℕ} (links : link_at 2 pre ≡ at) (n
   pub two_lines : (f g : Filling)
       → leaf_lines g.leaf f ++ (leaf_lines next g ++ (single (record { at = at; word = f.leaf }) ∷ [])) ≡ rewrite_lines pre (f ∷ g ∷ []) post
   two_lines f g = rw (links, names, append-nil) (sym (append_assoc (leaf_lines g.leaf f) (leaf_lines next g) (single (record { at = at; word = f.leaf }) ∷ [])))
+
+-- The new leaves of a rewrite take all pairs that it writes.
+pub one_content : (leaf : ℕ) (ps : List Pair) → contents (record { leaf = leaf; content = ps } ∷ []) ≡ ps
+one_content leaf ps = append-nil ps
+
+pub two_contents : (left right share : ℕ) (ps : List Pair)
+    → contents (record { leaf = left; content = take share ps } ∷ record { leaf = right; content = drop share ps } ∷ []) ≡ ps
+two_contents left right share ps = rw append-nil (take-append-drop share ps)
 
 -- What is asked of two leaves.
 pub record Shared (left right n share : ℕ) : Type 0 where
