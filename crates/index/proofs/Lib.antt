@@ -7,3 +7,4 @@ pub mod ChangeLaws
 pub mod ListLaws
 pub mod ShowLaws
 pub mod KeepingLaws
+pub mod FlatLaws

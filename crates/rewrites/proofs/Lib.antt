@@ -10,3 +10,4 @@ pub mod RewriteLaws
 pub mod TakenLaws
 pub mod BoundLaws
 pub mod ExampleLaws
+pub mod CallLaws

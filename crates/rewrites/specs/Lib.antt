@@ -2,3 +2,4 @@ pub mod Rewrite
 pub mod Bounds
 pub mod Parity
 pub mod Example
+pub mod Shares

@@ -2,11 +2,12 @@
 //! book, what they cost, and the code that writes them.
 #![tactic(auto)]
 
-ghost use Rattle.std.specs.Prelude.{◌≡◌, ◌+◌, ◌*◌, ◌/◌, ◌^◌, ◌<◌, ◌≤◌, ◌⊎◌, ◌∷◌, [], length, flat_map, Err};
+ghost use Rattle.std.specs.Prelude.{◌≡◌, ◌+◌, ◌*◌, ◌/◌, ◌^◌, ◌<◌, ◌≤◌, true, false, ◌⊎◌, ◌∷◌, ◌++◌, [], length, take, drop, flat_map, Err};
 ghost use Rattle.refusal.specs.declared.Refusal.TheVariants.{Outside};
 ghost use Rattle.fixed_vec.specs.Items.{items};
 ghost use Rattle.writes.specs.Writes.{onward, outcome, perform, single};
 ghost use Rattle.rewrites.specs.Bounds.{RewriteBounds};
+ghost use Rattle.rewrites.specs.Shares.{shared};
 ghost use Rattle.rewrites.specs.Example.{Example};
 ghost use Rattle.rewrites.specs.Parity.{NeverEmpty};
 ghost use Rattle.rewrites.specs.Rewrite.{CostsFew, LeafCost, Replacements, RewriteCost, Rewritings, leaf_lines, leaf_steps, pair_words};
@@ -65,6 +66,63 @@ pub fn link<M: Memory>(
     ensures few { steps.new ≤ steps.old + 2 }
 {
     write_row(memory, steps, at, &[leaf as u64])
+}
+
+// Writes one new leaf, and then the word that links it, until the first refusal: a merge and a replacement. Granted steps are counted.
+// Refused without a step where there is no such leaf, or for more pairs than it has slots.
+pub fn rewrite_one<M: Memory>(
+    memory: &mut M,
+    steps: &mut usize,
+    at: usize,
+    leaf: usize,
+    next: usize,
+    pairs: &[Pair],
+) -> Result<(), Refusal>
+    ensures done { 1 ≤ leaf → leaf ≤ 64 → length pairs.now ≤ 16 → at + 1 < 2 ^ 64 → steps.old + 87 < 2 ^ 64 → outcome (M.Memory.meaning memory.new) steps.new result ≡ onward steps.old (perform (M.Memory.meaning memory.old) (leaf_lines next (record { leaf = leaf; content = pairs.now }) ++ (single (record { at = at; word = leaf }) ∷ []))) }
+    ensures few { steps.new ≤ steps.old + 87 }
+    ensures outside { (leaf < 1) ⊎ (64 < leaf) ⊎ (16 < length pairs.now) → outcome (M.Memory.meaning memory.new) steps.new result ≡ outcome (M.Memory.meaning memory.old) steps.old (Err Outside) }
+{
+    write_leaf(memory, steps, leaf, next, pairs)?;
+    link(memory, steps, at, leaf)
+}
+
+// Whether both leaves are there and have room for their shares of at most 17 pairs in all.
+fn can_share(left: usize, right: usize, pairs: &[Pair], share: usize) -> bool
+    ensures { result ≡ shared left right (length pairs.now) share }
+{
+    let leaves = 1..=64;
+    leaves.contains(&left)
+        && leaves.contains(&right)
+        && pairs.len() <= 17
+        && share <= pairs.len()
+        && share <= 16
+        && pairs.len() - share <= 16
+}
+
+// Writes two new leaves, the first so many pairs into the left one and the others into the right one, and then the word that links
+// the left one, until the first refusal: a split. Granted steps are counted. Refused without a step where one of the leaves is not
+// there or has no room for its share, or for more than 17 pairs.
+pub fn rewrite_two<M: Memory>(
+    memory: &mut M,
+    steps: &mut usize,
+    at: usize,
+    left: usize,
+    right: usize,
+    next: usize,
+    pairs: &[Pair],
+    share: usize,
+) -> Result<(), Refusal>
+    ensures done { shared left right (length pairs.now) share ≡ true → at + 1 < 2 ^ 64 → steps.old + 87 < 2 ^ 64 → outcome (M.Memory.meaning memory.new) steps.new result ≡ onward steps.old (perform (M.Memory.meaning memory.old) (leaf_lines right (record { leaf = left; content = take share pairs.now }) ++ (leaf_lines next (record { leaf = right; content = drop share pairs.now }) ++ (single (record { at = at; word = left }) ∷ [])))) }
+    ensures few { steps.new ≤ steps.old + 87 }
+    ensures outside { shared left right (length pairs.now) share ≡ false → outcome (M.Memory.meaning memory.new) steps.new result ≡ outcome (M.Memory.meaning memory.old) steps.old (Err Outside) }
+{
+    if !can_share(left, right, pairs, share) {
+        return Err(Refusal::Outside);
+    }
+    let (first, others) = pairs.split_at(share);
+    write_leaf(memory, steps, left, right, first)?;
+    write_leaf(memory, steps, right, next, others)?;
+    link(memory, steps, at, left)
 }
 
 // A rewrite is a turn, whatever leaves it replaces and whatever content takes their place; one that carries a call's elements keeps the

@@ -1,4 +1,4 @@
-use Rattle.std.proofs.Common.{◌<◌, length, arith}
+use Rattle.std.proofs.Common.{arith}
 use Rattle.index.specs.Meaning.{grouped}
 use Rattle.index.proofs.LocateLaws.{length_grouped}
 use Rattle.index.proofs.PlaceLaws.{first_within, first_position}

@@ -1,0 +1,87 @@
+-- The numbers of all leaves and the bounds between them, listed node by node, and what a change of a leaf does to them.
+use Rattle.std.proofs.Common.{◌≡◌, ℕ, zero, suc, ◌+◌, ◌<◌, ◌≤◌, List, [], ◌∷◌, ◌++◌, length, get_or, take, drop, sym, refl, ap, ◌∙◌, append_assoc, length-append, arith}
+use lib.ListN.{length-map}
+use Rattle.std.proofs.lemmas.List.{drop_more, map-append}
+use Rattle.index.specs.declared.node.Entry.{Entry}
+use Rattle.index.specs.declared.table.Index.{Index}
+use Rattle.index.specs.Nodes.{bounds, numbers, parted, renamed, joined}
+use Rattle.index.specs.Search.{concat, front}
+use Rattle.index.specs.Meaning.{grouped, listed}
+use Rattle.index.proofs.ChangeLaws.{bounds_renamed, length_parted}
+
+pub length_listed : (x : Index) → length (listed x) ≤ 64
+unfolding grouped
+length_listed x = omega (arith, x.counted.0, x.counted.1)
+
+-- Some numbers, and after them those of the groups from group g on.
+module _ (gs : List (List Entry)) (g : ℕ) (out : List ℕ) (all : List Entry) (rest : out ++ numbers (concat (drop g gs)) ≡ numbers all) (h : g < length gs) (part : List Entry) (is : part ≡ get_or gs g []) where
+  here : out ++ (numbers part ++ numbers (concat (drop (g + 1) gs))) ≡ numbers all
+  here =
+      ap (λ xs. out ++ xs) (sym (map-append (λ (e : Entry). e.to) part (concat (drop (g + 1) gs))) ∙ ap (λ es. numbers (es ++ concat (drop (g + 1) gs))) is ∙ ap (λ es. numbers (concat es)) (sym (drop_more gs g [] h))) ∙ rest
+
+  pub numbers_room : length all ≤ 64 → length out + length part ≤ 64
+  numbers_room few =
+      omega (
+        arith,
+        few,
+        ap length here,
+        length-append out (numbers part ++ numbers (concat (drop (g + 1) gs))),
+        length-append (numbers part) (numbers (concat (drop (g + 1) gs))),
+        length-map part (λ (e : Entry). e.to),
+        length-map all (λ (e : Entry). e.to),
+      )
+
+  pub numbers_turn : {more : List ℕ} → more ≡ out ++ numbers part → more ++ numbers (concat (drop (g + 1) gs)) ≡ numbers all
+  numbers_turn push = rw push (append_assoc out (numbers part) (numbers (concat (drop (g + 1) gs))) ∙ here)
+
+front_bounds : (e : Entry) (es : List Entry) → 0 < length es → front (bounds (e ∷ es)) ≡ e.bound ∷ front (bounds es)
+front_bounds e [] h = absurd (omega arith)
+front_bounds e (d ∷ es) h = refl
+
+module _ (left : ℕ) (b : ℕ × ℕ) (right : ℕ) where
+  pub numbers_parted : (es : List Entry) (n : ℕ) → n < length es
+      → numbers (parted es n left b right) ≡ take n (numbers es) ++ (left ∷ right ∷ drop (n + 1) (numbers es))
+  numbers_parted [] n h = absurd (omega arith)
+  numbers_parted (e ∷ es) zero h = refl
+  numbers_parted (e ∷ es) (suc n) h =
+      let z : suc n + 1 ≡ suc (n + 1) = omega arith in rw z (ap (λ ks. e.to ∷ ks) (numbers_parted es n (omega arith)))
+
+  pub front_parted : (es : List Entry) (n : ℕ) → n < length es
+      → front (bounds (parted es n left b right)) ≡ take n (front (bounds es)) ++ (b ∷ drop n (front (bounds es)))
+  front_parted [] n h = absurd (omega arith)
+  front_parted (e ∷ es) zero h = refl
+  front_parted (e ∷ es) (suc n) h =
+      let new = front_bounds e (parted es n left b right) (omega (arith, length_parted es n left b right (omega arith))) in
+      let old = front_bounds e es (omega arith) in
+      rw (new, old) (ap (λ bs. e.bound ∷ bs) (front_parted es n (omega arith)))
+
+module _ (leaf : ℕ) where
+  pub numbers_renamed : (es : List Entry) (n : ℕ) → n < length es → numbers (renamed es n leaf) ≡ take n (numbers es) ++ (leaf ∷ drop (n + 1) (numbers es))
+  numbers_renamed [] n h = absurd (omega arith)
+  numbers_renamed (e ∷ es) zero h = refl
+  numbers_renamed (e ∷ es) (suc n) h =
+      let z : suc n + 1 ≡ suc (n + 1) = omega arith in rw z (ap (λ ks. e.to ∷ ks) (numbers_renamed es n (omega arith)))
+
+  pub front_renamed : (es : List Entry) (n : ℕ) → front (bounds (renamed es n leaf)) ≡ front (bounds es)
+  front_renamed es n = ap front (bounds_renamed es n leaf)
+
+  pub numbers_joined : (es : List Entry) (n : ℕ) → n + 1 < length es → numbers (joined es n leaf) ≡ take n (numbers es) ++ (leaf ∷ drop (n + 2) (numbers es))
+  numbers_joined [] n h = absurd (omega arith)
+  numbers_joined (e ∷ es) zero h = numbers_renamed es 0 (omega arith)
+  numbers_joined (e ∷ es) (suc n) h =
+      let z : suc n + 2 ≡ suc (n + 2) = omega arith in rw z (ap (λ ks. e.to ∷ ks) (numbers_joined es n (omega arith)))
+
+  length_joined : (es : List Entry) (n : ℕ) → n + 1 < length es → 0 < length (joined es n leaf)
+  length_joined [] n h = absurd (omega arith)
+  length_joined (e ∷ []) n h = absurd (omega arith)
+  length_joined (e ∷ d ∷ es) zero h = omega arith
+  length_joined (e ∷ d ∷ es) (suc n) h = omega arith
+
+  pub front_joined : (es : List Entry) (n : ℕ) → n + 1 < length es → front (bounds (joined es n leaf)) ≡ take n (front (bounds es)) ++ drop (n + 1) (front (bounds es))
+  front_joined [] n h = absurd (omega arith)
+  front_joined (e ∷ es) zero h = let old = front_bounds e es (omega arith) in rw old (front_renamed es 0)
+  front_joined (e ∷ es) (suc n) h =
+      let new = front_bounds e (joined es n leaf) (length_joined es n (omega arith)) in
+      let old = front_bounds e es (omega arith) in
+      let z : suc n + 1 ≡ suc (n + 1) = omega arith in
+      rw (new, old, z) (ap (λ bs. e.bound ∷ bs) (front_joined es n (omega arith)))
