@@ -1,0 +1,41 @@
+// The runs of words that a memory is made over.
+use crate::script::line::Make;
+use crate::script::wrong::Wrong;
+use std::alloc::{AllocError, Global};
+
+// No memory of a script has more words.
+const MOST: u64 = 1_048_576;
+
+#[derive(Drop)]
+pub enum Runs {
+    Through {
+        run: Vec<u64>,
+    },
+    Buffered {
+        live: Vec<u64>,
+        firm: Vec<u64>,
+        steps: u64,
+    },
+}
+
+// So many words 0.
+fn zeros(alloc: Global, words: u64) -> Result<Vec<u64>, Wrong> {
+    if words > MOST {
+        return Err(Wrong::TooManyWords);
+    }
+    let run: Result<Vec<u64>, AllocError> = vec![in alloc; 0; words as usize];
+    run.map_err(|_| Wrong::TooManyWords)
+}
+
+pub fn make_runs(alloc: Global, make: Make) -> Result<Runs, Wrong> {
+    match make {
+        Make::Through { words } => Ok(Runs::Through {
+            run: zeros(alloc, words)?,
+        }),
+        Make::Buffered { words, steps } => Ok(Runs::Buffered {
+            live: zeros(alloc, words)?,
+            firm: zeros(alloc, words)?,
+            steps,
+        }),
+    }
+}
