@@ -1,4 +1,7 @@
 // The runs of words that a memory is made over.
+ghost use Rattle.std.specs.Prelude.{◌≡◌, IfOk, replicate};
+ghost use Rattle.vervainstair.specs.Making.{IsMade};
+
 use crate::script::line::Make;
 use crate::script::wrong::Wrong;
 use std::alloc::{AllocError, Global};
@@ -19,7 +22,9 @@ pub enum Runs {
 }
 
 // So many words 0.
-fn zeros(alloc: Global, words: u64) -> Result<Vec<u64>, Wrong> {
+fn zeros(alloc: Global, words: u64) -> Result<Vec<u64>, Wrong>
+    ensures { IfOk result (λ run. run.items ≡ replicate words 0) }
+{
     if words > MOST {
         return Err(Wrong::TooManyWords);
     }
@@ -27,7 +32,10 @@ fn zeros(alloc: Global, words: u64) -> Result<Vec<u64>, Wrong> {
     run.map_err(|_| Wrong::TooManyWords)
 }
 
-pub fn make_runs(alloc: Global, make: Make) -> Result<Runs, Wrong> {
+// The runs of a new memory; refused where they are not to be had.
+pub fn make_runs(alloc: Global, make: Make) -> Result<Runs, Wrong>
+    ensures { IfOk result (IsMade make) }
+{
     match make {
         Make::Through { words } => Ok(Runs::Through {
             run: zeros(alloc, words)?,
