@@ -1,5 +1,7 @@
 ghost use Rattle.std.specs.Prelude.{◌≡◌, ℕ};
+ghost use Rattle.std.specs.Borrow.{Lends, sem};
 ghost use Rattle.layers.specs.Layers.{Numbering, Sound, flush_below, layered, layered_lawful, line_under, place, store_below, word_below};
+ghost use Rattle.layers.specs.contracts.layer.Layer.{the_row};
 ghost use Rattle.memory.specs.Meaning.{Freely, after_flush, after_settle, after_store, flush_answer, read_answer, settle_answer, size_of, store_answer};
 
 use memory::{Memory, Settle};
@@ -36,6 +38,14 @@ impl<N: Renumber, M: Memory> Layer<N, M> {
         ensures { result.now ≡ self.now.below }
     {
         &self.below
+    }
+
+    // The memory below, to be changed.
+    pub fn below_mut(&mut self) -> &mut M
+        ensures value { result.now ≡ self.old.below }
+        ensures* writes_back { sem 𝓛 (Lends (the_row N.row M.row) M.row self.entry result (λ w. record self.old { below = w })) }
+    {
+        &mut self.below
     }
 
     // Gives the memory below back.

@@ -11,7 +11,7 @@ pub type Margin<M> = Layer<Hidden, M>;
 // The numbering of a margin: how many lines it hides.
 #[derive(Drop)]
 pub struct Hidden {
-    lines: usize,
+    pub(crate) lines: usize,
 }
 
 impl<M: Memory> Layer<Hidden, M> {

@@ -11,7 +11,7 @@ pub type Rotation<M> = Layer<Turned, M>;
 // The numbering of a rotation: by how many lines it turns.
 #[derive(Drop)]
 pub struct Turned {
-    by: usize,
+    pub(crate) by: usize,
 }
 
 impl<M: Memory> Layer<Turned, M> {

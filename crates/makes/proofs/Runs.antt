@@ -6,12 +6,16 @@ use Rattle.std.proofs.lemmas.Bool.{cases_eq, cond-true, lt-ltb}
 use Rattle.std.proofs.lemmas.Bool.Decides.{nat_tests}
 use Rattle.memory.specs.Meaning.{picked, store_answer, after_store, flush_answer, after_flush, odd_at, settle_answer, after_settle, Freely}
 use Rattle.makes.specs.Makes.{shared, unshared, buffered_words, through_words}
+use Rattle.makes.specs.Probes.{poked}
 use Rattle.memory.proofs.Words.{chosen, length_chosen, odd_at_chosen, is_tabled, picked_by, picked_same, words_by}
 
 pub store_after : (a b : List ℕ) (n i w : ℕ) → i < shared a b → is_ok (store_answer (buffered_words a b n) i) ≡ true
     → buffered_words (set a i w) b (n - 1) ≡ after_store (buffered_words a b n) i w
 store_after a b n i w h g =
     rw (cond-true (is_ok (store_answer (buffered_words a b n) i)) _ _ g) (simp (length-set, take-set-lt))
+
+pub poke_after : (a b : List ℕ) (n i w : ℕ) → i < shared a b → buffered_words (set a i w) (set b i w) n ≡ poked (buffered_words a b n) i w
+poke_after a b n i w h = simp (length-set, take-set-lt)
 
 in_line : (k l n i : ℕ) → k < n → i ≡ min n (8 * l + 8) → (leb (8 * l) k && ltb k i) ≡ eqb (k / 8) l
 in_line k l n i h e = grind (arith, nat_tests)

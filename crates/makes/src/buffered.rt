@@ -1,7 +1,9 @@
 ghost use Rattle.std.specs.Prelude.{◌≡◌, ℕ};
 ghost use Rattle.makes.specs.Makes.{buffered_lawful, buffered_words, shared, unshared};
+ghost use Rattle.makes.specs.Probes.{poke_answer, poked};
 ghost use Rattle.memory.specs.Meaning.{Freely, after_flush, after_settle, after_store, flush_answer, read_answer, settle_answer, store_answer};
 
+use crate::probe::Probe;
 use memory::{Memory, Settle};
 use refusal::Refusal;
 
@@ -157,6 +159,31 @@ impl Settle for Buffered<'_> {
             }
         }
         self.steps = steps;
+        Ok(())
+    }
+}
+
+impl Probe for Buffered<'_> {
+    fn words(&self) -> (&[u64], &[u64]) {
+        let size = self.shared();
+        (&self.live[..size], &self.firm[..size])
+    }
+
+    fn steps(&self) -> Option<u64> {
+        Some(self.steps_left())
+    }
+
+    fn poke(&mut self, at: usize, word: u64) -> Result<(), Refusal>
+        ensures answer { result ≡ poke_answer (buffered_words self.old.live.now self.old.firm.now self.old.steps) at }
+        ensures after { buffered_words self.new.live.now self.new.firm.now self.new.steps ≡ poked (buffered_words self.old.live.now self.old.firm.now self.old.steps) at word }
+        ensures lent { (self.new.live.ghost_name ≡ self.old.live.ghost_name) × (self.new.firm.ghost_name ≡ self.old.firm.ghost_name) }
+        ensures rest { unshared self.new.live.now self.new.firm.now ≡ unshared self.old.live.now self.old.firm.now }
+    {
+        if at >= self.shared() {
+            return Err(Refusal::Outside);
+        }
+        self.live[at] = word;
+        self.firm[at] = word;
         Ok(())
     }
 }

@@ -2,4 +2,5 @@
 #![tactic(auto)]
 
 pub mod buffered;
+pub mod probe;
 pub mod through;

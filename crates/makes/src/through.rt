@@ -1,7 +1,9 @@
 ghost use Rattle.std.specs.Prelude.{◌≡◌, ℕ};
 ghost use Rattle.memory.specs.Meaning.{Freely, after_flush, after_settle, after_store, flush_answer, read_answer, settle_answer, store_answer};
 ghost use Rattle.makes.specs.Makes.{through_lawful, through_words};
+ghost use Rattle.makes.specs.Probes.{poke_answer, poked};
 
+use crate::probe::Probe;
 use memory::{Memory, Settle};
 use refusal::Refusal;
 
@@ -97,5 +99,23 @@ impl Settle for Through<'_> {
             return Err(Refusal::WrongLength);
         }
         Ok(())
+    }
+}
+
+impl Probe for Through<'_> {
+    fn words(&self) -> (&[u64], &[u64]) {
+        (self.run, self.run)
+    }
+
+    fn steps(&self) -> Option<u64> {
+        None
+    }
+
+    fn poke(&mut self, at: usize, word: u64) -> Result<(), Refusal>
+        ensures answer { result ≡ poke_answer (through_words self.old.run.now) at }
+        ensures after { through_words self.new.run.now ≡ poked (through_words self.old.run.now) at word }
+        ensures lent { self.new.run.ghost_name ≡ self.old.run.ghost_name }
+    {
+        self.store(at, word)
     }
 }

@@ -21,6 +21,7 @@ pub enum State {
 }
 
 // It holds its memory, and `taken` is the leaf taken last, if one was.
+#[derive(Drop)]
 pub struct Logbook<K, M> {
     memory: M,
     state: State,

@@ -1,13 +1,36 @@
-//! The program: shows one real task from beginning to end, as tables that a person can read.
+//! The program: plays a script from standard input, or without one its own task from beginning to end, as tables that a person can read.
 #![tactic(auto)]
 
-use std::io;
+use console::play::Console;
+use script::reader::Script;
+use std::io::{self, BufReader, BufWriter};
 
+mod console;
 mod correction;
+mod damage;
 mod dates;
+mod pile;
+mod script;
+
+fn show_task(rt: &impl Print) -> io::Result<()> {
+    println!(rt; "Vervainstair: clock corrections in persistent memory")?;
+    dates::show(rt)?;
+    correction::show(rt)?;
+    damage::show(rt)
+}
 
 fn main(rt: HostRuntime) -> io::Result<()> {
-    println!(rt; "Vervainstair: clock corrections in persistent memory")?;
-    dates::show(&rt)?;
-    correction::show(&rt)
+    let alloc = rt.alloc();
+    let mut script = Script::new(alloc, BufReader::new(alloc, rt.reader())?);
+    if script.is_empty()? {
+        return show_task(&rt);
+    }
+    let out = BufWriter::new(alloc, io::writer(&rt))?;
+    let mut console = Console {
+        alloc,
+        script,
+        out,
+        kind: None,
+    };
+    console.play()
 }

@@ -1,0 +1,28 @@
+use Rattle.std.proofs.Common.{rules}
+use Rattle.vervainstair.proofs.script.parse.line.Goals as goal
+
+pub returns-in_ok-probing-in-steps-clause-call : goal.returns-in_ok-probing-in-steps-clause-call
+returns-in_ok-probing-in-steps-clause-call c = record {
+  format = search rules;
+  opens = search rules;
+  find-stamp = search rules;
+  find-port = search rules;
+  next-stamp = search rules;
+  next-port = search rules;
+  pairs = search rules;
+  node = search rules;
+  state = search rules;
+}
+
+pub returns-in_ok-setting-in-margin-clause-call : goal.returns-in_ok-setting-in-margin-clause-call
+returns-in_ok-setting-in-margin-clause-call c = record {
+  format = search rules;
+  opens = search rules;
+  find-stamp = search rules;
+  find-port = search rules;
+  next-stamp = search rules;
+  next-port = search rules;
+  pairs = search rules;
+  node = search rules;
+  state = search rules;
+}

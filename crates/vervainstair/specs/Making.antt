@@ -1,0 +1,12 @@
+-- The runs of a new memory: as many words as the script says, all 0.
+use Rattle.std.specs.Prelude.{◌≡◌, replicate}
+use Rattle.vervainstair.specs.declared.script.line.Make.{Make}
+use Rattle.vervainstair.specs.declared.script.line.Make.TheVariants.{Through, Buffered}
+use Rattle.vervainstair.specs.declared.console.runs.Runs.{Runs}
+use Rattle.vervainstair.specs.declared.console.runs.Runs.TheVariants.{Through as ThroughRuns, Buffered as BufferedRuns}
+
+abbrev pub IsMade : Make → Runs → Type 0
+IsMade (Through words) (ThroughRuns run) = run.items ≡ replicate words 0
+IsMade (Through words) (BufferedRuns live firm steps) = ⊥
+IsMade (Buffered words steps) (ThroughRuns run) = ⊥
+IsMade (Buffered words steps) (BufferedRuns live firm left) = (live.items ≡ replicate words 0) × (firm.items ≡ replicate words 0) × (left ≡ steps)

@@ -1,0 +1,5 @@
+// The script console: each line of a script is one call, answered by one line.
+pub mod answer;
+pub mod book;
+pub mod play;
+pub mod runs;

@@ -1,0 +1,133 @@
+// What a line is answered.
+use crate::script::wrong::Wrong;
+use index::record::{Holds, NodeRecord};
+use leaves::leaf::Pair;
+use leaves::open::Fault;
+use refusal::Refusal;
+use std::io::{self, Write};
+
+// How a logbook stands.
+#[derive(Clone, Copy)]
+pub enum Standing {
+    Blank,
+    Open,
+    Dark,
+}
+
+// What a granted call tells.
+#[derive(Clone, Copy)]
+pub enum Told {
+    Nothing,
+    Number(u64),
+    Endless,
+    State(Standing),
+    Pair(Pair),
+    Node(NodeRecord),
+}
+
+// Why there is no such answer.
+#[derive(Clone, Copy)]
+pub enum Trouble {
+    Refused(Fault),
+    Wrong(Wrong),
+}
+
+impl From<Fault> for Trouble {
+    fn from(fault: Fault) -> Self {
+        Trouble::Refused(fault)
+    }
+}
+
+impl From<Refusal> for Trouble {
+    fn from(refusal: Refusal) -> Self {
+        Trouble::Refused(refusal.into())
+    }
+}
+
+impl From<Wrong> for Trouble {
+    fn from(wrong: Wrong) -> Self {
+        Trouble::Wrong(wrong)
+    }
+}
+
+pub fn write_answer<W: Write>(
+    out: &mut W,
+    line: u64,
+    answer: &Result<Told, Trouble>,
+) -> io::Result<()> {
+    match answer {
+        Ok(told) => write_told(out, told),
+        Err(Trouble::Refused(fault)) => write_refused(out, fault),
+        Err(Trouble::Wrong(wrong)) => writeln!(out, "error line {line}: {wrong}"),
+    }
+}
+
+fn write_told<W: Write>(out: &mut W, told: &Told) -> io::Result<()> {
+    match told {
+        Told::Nothing => writeln!(out, "ok"),
+        Told::Number(number) => writeln!(out, "ok {number}"),
+        Told::Endless => writeln!(out, "ok endless"),
+        Told::State(Standing::Blank) => writeln!(out, "ok blank"),
+        Told::State(Standing::Open) => writeln!(out, "ok open"),
+        Told::State(Standing::Dark) => writeln!(out, "ok dark"),
+        Told::Pair(pair) => {
+            let (first, second) = pair.key;
+            let reading = pair.reading;
+            writeln!(out, "ok {first} {second} {reading}")
+        }
+        Told::Node(record) => write_node(out, record),
+    }
+}
+
+// With a bad link stands its leaf, with a bad leaf its number and the slot.
+fn write_refused<W: Write>(out: &mut W, fault: &Fault) -> io::Result<()> {
+    let Fault {
+        refusal,
+        leaf,
+        slot,
+    } = *fault;
+    match refusal {
+        Refusal::BadLink => writeln!(out, "refused {refusal} {leaf}"),
+        Refusal::BadLeaf => writeln!(out, "refused {refusal} {leaf} {slot}"),
+        _ => writeln!(out, "refused {refusal}"),
+    }
+}
+
+fn write_node<W: Write>(out: &mut W, record: &NodeRecord) -> io::Result<()> {
+    match record.holds {
+        Holds::Nothing => return writeln!(out, "ok none"),
+        Holds::Leaves => write!(out, "ok leaves")?,
+        Holds::Children => write!(out, "ok children")?,
+    }
+    for number in record.numbers.as_slice() {
+        write!(out, " {number}")?;
+    }
+    write_bounds(out, record.bounds.as_slice())
+}
+
+fn write_bounds<W: Write>(out: &mut W, bounds: &[(u64, u64)]) -> io::Result<()> {
+    write!(out, " bounds")?;
+    for bound in bounds {
+        let (first, second) = *bound;
+        write!(out, " {first} {second}")?;
+    }
+    writeln!(out, "")
+}
+
+// The words that are not 0, each with its index.
+fn write_words<W: Write>(out: &mut W, words: &[u64]) -> io::Result<()> {
+    for (at, word) in words.iter().enumerate() {
+        if *word != 0 {
+            write!(out, " {at}:{word}")?;
+        }
+    }
+    Ok(())
+}
+
+pub fn write_dump<W: Write>(out: &mut W, live: &[u64], firm: &[u64]) -> io::Result<()> {
+    write!(out, "ok live")?;
+    write_words(out, live)?;
+    write!(out, " firm")?;
+    write_words(out, firm)?;
+    writeln!(out, "")
+}

@@ -1,0 +1,113 @@
+// The logbook that a script calls, for the kind of key that it has named.
+use super::answer::{Standing, Told, Trouble};
+use crate::pile::{Pile, bottom, bottom_mut};
+use crate::script::line::{Call, Fields, Kind};
+use crate::script::wrong::Wrong;
+use index::record::NodeRecord;
+use keys::Key;
+use keys::port::Port;
+use keys::stamp::Stamp;
+use makes::probe::Probe;
+use memory::Memory;
+use tree::logbook::{Logbook, State};
+
+// The pile alone where no kind is named yet.
+#[derive(Drop)]
+pub enum Book<B> {
+    Unkind(Pile<B>),
+    Stamps(Logbook<Stamp, Pile<B>>),
+    Ports(Logbook<Port, Pile<B>>),
+}
+
+// A kind of key that a script can write.
+trait Written: Key {
+    fn written(fields: Fields) -> Result<Self, Trouble>;
+}
+
+impl Written for Stamp {
+    fn written(fields: Fields) -> Result<Stamp, Trouble> {
+        match fields {
+            Fields::Stamp { year, day, ms } => Ok(Stamp::new(year, day, ms)?),
+            Fields::Port { .. } => Err(Wrong::OtherKind.into()),
+        }
+    }
+}
+
+impl Written for Port {
+    fn written(fields: Fields) -> Result<Port, Trouble> {
+        match fields {
+            Fields::Port { identity, number } => Ok(Port::new(identity, number)?),
+            Fields::Stamp { .. } => Err(Wrong::OtherKind.into()),
+        }
+    }
+}
+
+// The answer of a logbook to one call.
+fn ask<K: Written, M: Memory>(book: &mut Logbook<K, M>, call: Call) -> Result<Told, Trouble> {
+    match call {
+        Call::Format { leaves } => {
+            book.format(leaves as usize)?;
+            Ok(Told::Nothing)
+        }
+        Call::Open => {
+            book.open()?;
+            Ok(Told::Nothing)
+        }
+        Call::Find(fields) => Ok(Told::Number(book.find(&K::written(fields)?)?)),
+        Call::Next(fields) => Ok(Told::Pair(book.next(&K::written(fields)?)?)),
+        Call::Pairs => Ok(Told::Number(book.pairs()? as u64)),
+        Call::Node { node } => {
+            let mut record = NodeRecord::new();
+            book.node(node as usize, &mut record)?;
+            Ok(Told::Node(record))
+        }
+        Call::State => Ok(Told::State(match book.state() {
+            State::Blank => Standing::Blank,
+            State::Open(_) => Standing::Open,
+            State::Dark => Standing::Dark,
+        })),
+    }
+}
+
+impl<B: Probe> Book<B> {
+    // A new logbook over a pile, blank.
+    pub fn new(pile: Pile<B>, kind: Option<Kind>) -> Self {
+        match kind {
+            None => Book::Unkind(pile),
+            Some(Kind::Stamp) => Book::Stamps(Logbook::new(pile)),
+            Some(Kind::Port) => Book::Ports(Logbook::new(pile)),
+        }
+    }
+
+    pub fn release(self) -> Pile<B> {
+        match self {
+            Book::Unkind(pile) => pile,
+            Book::Stamps(book) => book.release(),
+            Book::Ports(book) => book.release(),
+        }
+    }
+
+    pub fn bottom(&self) -> &B {
+        match self {
+            Book::Unkind(pile) => bottom(pile),
+            Book::Stamps(book) => bottom(book.memory()),
+            Book::Ports(book) => bottom(book.memory()),
+        }
+    }
+
+    pub fn bottom_mut(&mut self) -> &mut B {
+        match self {
+            Book::Unkind(pile) => bottom_mut(pile),
+            Book::Stamps(book) => bottom_mut(book.memory_mut()),
+            Book::Ports(book) => bottom_mut(book.memory_mut()),
+        }
+    }
+
+    pub fn ask(&mut self, call: Call) -> Result<Told, Trouble> {
+        match self {
+            Book::Unkind(_) => Err(Wrong::NoKind.into()),
+            Book::Stamps(book) => ask(book, call),
+            Book::Ports(book) => ask(book, call),
+        }
+    }
+}

@@ -1,0 +1,171 @@
+// Playing a script, line by line.
+use super::answer::{Told, Trouble, write_answer, write_dump};
+use super::book::Book;
+use super::runs::{Runs, make_runs};
+use crate::pile::{piled, unpile};
+use crate::script::line::{Kind, Line, Probing, Setting};
+use crate::script::reader::Script;
+use crate::script::wrong::Wrong;
+use fixed_vec::FixedVec;
+use layers::chosen::Sort;
+use makes::buffered::Buffered;
+use makes::probe::Probe;
+use makes::through::Through;
+use std::alloc::Global;
+use std::io::{self, BufRead, Write};
+
+// Where lines come from and answers go, and the kind of key named last.
+#[derive(Drop)]
+pub struct Console<R, W> {
+    pub alloc: Global,
+    pub script: Script<R>,
+    pub out: W,
+    pub kind: Option<Kind>,
+}
+
+// The logbook of a memory, and the layers that it lies on.
+#[derive(Drop)]
+struct Desk<B> {
+    book: Book<B>,
+    layers: FixedVec<Sort, 3>,
+}
+
+impl<B: Probe> Desk<B> {
+    fn new(bottom: B, kind: Option<Kind>) -> Self {
+        let layers = FixedVec::new(Sort::Hides(0));
+        let book = Book::new(piled(bottom, layers.as_slice()), kind);
+        Desk { book, layers }
+    }
+
+    // A new blank logbook: over one more layer, for another kind of key, or only so.
+    fn set(self, setting: Setting, kind: &mut Option<Kind>) -> (Self, Result<Told, Trouble>) {
+        let Desk { book, mut layers } = self;
+        match setting {
+            Setting::Layer(sort) => {
+                if layers.push(sort).is_err() {
+                    return (Desk { book, layers }, Err(Wrong::FourthLayer.into()));
+                }
+            }
+            Setting::Kind(named) => *kind = Some(named),
+            Setting::Anew => {
+                if kind.is_none() {
+                    return (Desk { book, layers }, Err(Wrong::NoKind.into()));
+                }
+            }
+        }
+        let words = unpile(book.release());
+        let book = Book::new(piled(words, layers.as_slice()), *kind);
+        (Desk { book, layers }, Ok(Told::Nothing))
+    }
+}
+
+impl<R: BufRead, W: Write> Console<R, W> {
+    fn answer(&mut self, answer: &Result<Told, Trouble>) -> io::Result<()> {
+        write_answer(&mut self.out, self.script.number(), answer)?;
+        self.out.flush()
+    }
+
+    // The runs that a line names, answered; nothing where they are not to be had.
+    fn named(&mut self, named: Result<Runs, Wrong>) -> io::Result<Option<Runs>> {
+        match named {
+            Ok(runs) => {
+                self.answer(&Ok(Told::Nothing))?;
+                Ok(Some(runs))
+            }
+            Err(wrong) => {
+                self.answer(&Err(Trouble::Wrong(wrong)))?;
+                Ok(None)
+            }
+        }
+    }
+
+    fn probe<B: Probe>(&mut self, book: &mut Book<B>, probing: Probing) -> io::Result<()> {
+        match probing {
+            Probing::Steps => match book.bottom().steps() {
+                None => self.answer(&Ok(Told::Endless)),
+                Some(steps) => self.answer(&Ok(Told::Number(steps))),
+            },
+            Probing::Poke { at, word } => {
+                let poked = book.bottom_mut().poke(at as usize, word);
+                match poked {
+                    Ok(()) => self.answer(&Ok(Told::Nothing)),
+                    Err(refusal) => self.answer(&Err(refusal.into())),
+                }
+            }
+            Probing::Dump => {
+                let (live, firm) = book.bottom().words();
+                write_dump(&mut self.out, live, firm)?;
+                self.out.flush()
+            }
+        }
+    }
+
+    // Plays the lines over one memory, up to the line that names another one, whose runs are told; nothing at the end of the script.
+    fn over<B: Probe + Drop>(&mut self, bottom: B) -> io::Result<Option<Runs>> {
+        let mut desk = Desk::new(bottom, self.kind);
+        for _ in 0..u64::MAX {
+            match self.script.next()? {
+                None => break,
+                Some(Err(wrong)) => self.answer(&Err(Trouble::Wrong(wrong)))?,
+                Some(Ok(Line::Memory(make))) => {
+                    let runs = self.named(make_runs(self.alloc, make))?;
+                    if runs.is_some() {
+                        return Ok(runs);
+                    }
+                }
+                Some(Ok(Line::Setting(setting))) => {
+                    let (set, answer) = desk.set(setting, &mut self.kind);
+                    desk = set;
+                    self.answer(&answer)?;
+                }
+                Some(Ok(Line::Probing(probing))) => self.probe(&mut desk.book, probing)?,
+                Some(Ok(Line::Call(call))) => {
+                    let answer = desk.book.ask(call);
+                    self.answer(&answer)?;
+                }
+            }
+        }
+        Ok(None)
+    }
+
+    // Plays the lines before the first memory.
+    fn before(&mut self) -> io::Result<Option<Runs>> {
+        for _ in 0..u64::MAX {
+            match self.script.next()? {
+                None => break,
+                Some(Err(wrong)) => self.answer(&Err(Trouble::Wrong(wrong)))?,
+                Some(Ok(Line::Memory(make))) => {
+                    let runs = self.named(make_runs(self.alloc, make))?;
+                    if runs.is_some() {
+                        return Ok(runs);
+                    }
+                }
+                Some(Ok(Line::Setting(Setting::Kind(kind)))) => {
+                    self.kind = Some(kind);
+                    self.answer(&Ok(Told::Nothing))?;
+                }
+                Some(Ok(_)) => self.answer(&Err(Trouble::Wrong(Wrong::NoMemory)))?,
+            }
+        }
+        Ok(None)
+    }
+
+    // Plays the whole script.
+    pub fn play(&mut self) -> io::Result<()> {
+        let mut named = self.before()?;
+        for _ in 0..u64::MAX {
+            named = match named {
+                None => break,
+                Some(Runs::Through { mut run }) => self.over(Through::new(&mut run))?,
+                Some(
+                    Runs::Buffered {
+                        mut live,
+                        mut firm,
+                        steps,
+                    },
+                ) => self.over(Buffered::new(&mut live, &mut firm, steps))?,
+            };
+        }
+        Ok(())
+    }
+}

@@ -1,0 +1,132 @@
+// From the words of a line to what the line asks for.
+ghost use Rattle.std.specs.Prelude.{◌⊎◌, IsOk};
+ghost use Rattle.std.specs.Result.{OkIff};
+ghost use Rattle.vervainstair.specs.Forms.{IsNumber, CallForm, MemoryForm, ProbingForm, ReadsCall, ReadsMemory, ReadsProbing, ReadsSetting, SettingForm, number_of};
+ghost use Rattle.vervainstair.specs.declared.script.line.Fields.TheVariants.{Stamp as StampFields, Port as PortFields};
+ghost use Rattle.vervainstair.specs.declared.script.line.Line.TheVariants.{Memory, Setting as SettingLine, Probing as ProbingLine, Call as CallLine};
+
+use super::line::{Call, Fields, Kind, Line, Make, Probing, Setting};
+use super::wrong::Wrong;
+use layers::chosen::Sort;
+use std::num::IntErrorKind;
+
+// A number in decimal digits; which error another word gets is left open.
+fn number(word: &str) -> Result<u64, Wrong>
+    ensures { OkIff result (IsNumber word.now) (number_of word.now) }
+{
+    if let [b'+', ..] = word.as_bytes() {
+        return Err(Wrong::NotANumber);
+    }
+    match word.parse::<u64>() {
+        Ok(number) => Ok(number),
+        Err(error) => match error.kind() {
+            IntErrorKind::PosOverflow => Err(Wrong::TooGreat),
+            _ => Err(Wrong::NotANumber),
+        },
+    }
+}
+
+fn memory(words: &[&str]) -> Result<Make, Wrong>
+    ensures reads { ReadsMemory words.now result (λ m. m) }
+    ensures others { IsOk result → MemoryForm words.now }
+{
+    match *words {
+        ["memory", "through", words] => Ok(Make::Through {
+            words: number(words)?,
+        }),
+        ["memory", "buffered", words, steps] => Ok(Make::Buffered {
+            words: number(words)?,
+            steps: number(steps)?,
+        }),
+        _ => Err(Wrong::MemoryForm),
+    }
+}
+
+fn setting(words: &[&str]) -> Result<Setting, Wrong>
+    ensures reads { ReadsSetting words.now result (λ s. s) }
+    ensures others { IsOk result → SettingForm words.now }
+{
+    match *words {
+        ["margin", lines] => Ok(Setting::Layer(Sort::Hides(number(lines)? as usize))),
+        ["rotation", lines] => Ok(Setting::Layer(Sort::Turns(number(lines)? as usize))),
+        ["kind", "stamp"] => Ok(Setting::Kind(Kind::Stamp)),
+        ["kind", "port"] => Ok(Setting::Kind(Kind::Port)),
+        ["make"] => Ok(Setting::Anew),
+        _ => Err(Wrong::SettingForm),
+    }
+}
+
+fn probing(words: &[&str]) -> Result<Probing, Wrong>
+    ensures reads { ReadsProbing words.now result (λ p. p) }
+    ensures others { IsOk result → ProbingForm words.now }
+{
+    match *words {
+        ["steps"] => Ok(Probing::Steps),
+        ["poke", at, word] => Ok(Probing::Poke {
+            at: number(at)?,
+            word: number(word)?,
+        }),
+        ["dump"] => Ok(Probing::Dump),
+        _ => Err(Wrong::ProbingForm),
+    }
+}
+
+// The three numbers of a stamp, and the two of a port.
+fn stamp(year: &str, day: &str, ms: &str) -> Result<Fields, Wrong>
+    ensures { OkIff result (IsNumber year.now × IsNumber day.now × IsNumber ms.now) (StampFields (number_of year.now) (number_of day.now) (number_of ms.now)) }
+{
+    Ok(Fields::Stamp {
+        year: number(year)?,
+        day: number(day)?,
+        ms: number(ms)?,
+    })
+}
+
+fn port(identity: &str, port: &str) -> Result<Fields, Wrong>
+    ensures { OkIff result (IsNumber identity.now × IsNumber port.now) (PortFields (number_of identity.now) (number_of port.now)) }
+{
+    Ok(Fields::Port {
+        identity: number(identity)?,
+        number: number(port)?,
+    })
+}
+
+fn call(words: &[&str]) -> Result<Call, Wrong>
+    ensures reads { ReadsCall words.now result (λ c. c) }
+    ensures others { IsOk result → CallForm words.now }
+{
+    match *words {
+        ["format", leaves] => Ok(Call::Format {
+            leaves: number(leaves)?,
+        }),
+        ["open"] => Ok(Call::Open),
+        ["find", year, day, ms] => Ok(Call::Find(stamp(year, day, ms)?)),
+        ["find", identity, number] => Ok(Call::Find(port(identity, number)?)),
+        ["next", year, day, ms] => Ok(Call::Next(stamp(year, day, ms)?)),
+        ["next", identity, number] => Ok(Call::Next(port(identity, number)?)),
+        ["pairs"] => Ok(Call::Pairs),
+        ["node", node] => Ok(Call::Node {
+            node: number(node)?,
+        }),
+        ["state"] => Ok(Call::State),
+        ["find" | "next", ..] => Err(Wrong::KeyForm),
+        ["format" | "open" | "pairs" | "node" | "state", ..] => Err(Wrong::CallForm),
+        _ => Err(Wrong::NoCall),
+    }
+}
+
+// What the words of a line ask for, if they are of one of the forms.
+pub fn line(words: &[&str]) -> Result<Line, Wrong>
+    ensures memory { ReadsMemory words.now result Memory }
+    ensures setting { ReadsSetting words.now result SettingLine }
+    ensures probing { ReadsProbing words.now result ProbingLine }
+    ensures call { ReadsCall words.now result CallLine }
+    ensures others { IsOk result → MemoryForm words.now ⊎ (SettingForm words.now ⊎ (ProbingForm words.now ⊎ CallForm words.now)) }
+{
+    match *words {
+        ["memory", ..] => Ok(Line::Memory(memory(words)?)),
+        ["margin" | "rotation" | "kind" | "make", ..] => Ok(Line::Setting(setting(words)?)),
+        ["steps" | "poke" | "dump", ..] => Ok(Line::Probing(probing(words)?)),
+        _ => Ok(Line::Call(call(words)?)),
+    }
+}

@@ -1,0 +1,49 @@
+// Why a line of a script is no call.
+use std::fmt;
+
+#[derive(Clone, Copy, PartialEq, Eq, Debug)]
+pub enum Wrong {
+    NotText,
+    NoCall,
+    // a known first word, and then others than its call has
+    MemoryForm,
+    SettingForm,
+    ProbingForm,
+    CallForm,
+    KeyForm,
+    NotANumber,
+    TooGreat,
+    NoMemory,
+    NoKind,
+    OtherKind,
+    FourthLayer,
+    TooManyWords,
+}
+
+impl Wrong {
+    fn text(self) -> &'static str {
+        match self {
+            Wrong::NotText => "not UTF-8 text",
+            Wrong::NoCall => "no such call",
+            Wrong::MemoryForm => "write memory through WORDS or memory buffered WORDS STEPS",
+            Wrong::SettingForm =>
+                "write margin LINES, rotation LINES, kind stamp, kind port or make",
+            Wrong::ProbingForm => "write steps, poke INDEX WORD or dump",
+            Wrong::CallForm => "write format LEAVES, open, pairs, node N or state",
+            Wrong::KeyForm => "write a key as YEAR DAY MILLISECOND or IDENTITY PORT",
+            Wrong::NotANumber => "a number is decimal digits and nothing else",
+            Wrong::TooGreat => "a number is at most 18446744073709551615",
+            Wrong::NoMemory => "no memory is named yet",
+            Wrong::NoKind => "no kind of key is named yet",
+            Wrong::OtherKind => "this is a key of another kind",
+            Wrong::FourthLayer => "there are three layers already",
+            Wrong::TooManyWords => "a memory of so many words is not to be had",
+        }
+    }
+}
+
+impl fmt::Display for Wrong {
+    fn fmt<W: fmt::Write>(&self, f: &mut fmt::Formatter<W>) -> fmt::Result {
+        f.write_str(self.text())
+    }
+}
