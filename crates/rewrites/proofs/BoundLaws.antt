@@ -5,20 +5,18 @@ use Rattle.keys.specs.InWords.{WordKind, WordOrdered}
 use Rattle.leaves.specs.declared.leaf.Pair.{Pair}
 use Rattle.leaves.specs.Layout.{element, count_of}
 use Rattle.leaves.specs.Ascent.{Each, Ascending}
-use Rattle.leaves.proofs.AscentLaws.{each_map}
 use Rattle.leaves.proofs.BookLaws.{between}
-use Rattle.writes.specs.Writes.{finished}
 use Rattle.books.specs.Opens.{AllFine, lone}
 use Rattle.books.specs.Bounds.{Keys, AtMost, Bounded, locate}
-use Rattle.rewrites.specs.Rewrite.{Filling, leaf_numbers, contents, SomePairs, Fillings, rewrite_lines}
+use Rattle.rewrites.specs.Rewrite.{Filling, leaf_numbers, contents}
 use Rattle.rewrites.specs.Bounds.{last_key, inner_bounds, bounds_after, RewriteBounds}
 use Rattle.books.proofs.FootprintLaws.{KeptLeaves}
 use Rattle.books.proofs.QuestionLaws.{not_back}
 use Rattle.books.proofs.BoundLaws.{Busy, all_busy, locate_more}
 use Rattle.appends.proofs.BoundsKept.{keys_kept, bounded_kept}
-use Rattle.rewrites.proofs.NewLeaves.{Filled, AllFilled, fine_drop, key_written}
-use Rattle.rewrites.proofs.KeyLists.{each_left, each_right, ascending_left, ascending_right, ascending_cross, keys_left, keys_right, keys_append}
-use Rattle.rewrites.proofs.RewriteLaws as rewritten
+use Rattle.rewrites.proofs.NewLeaves.{Filled, AllFilled, Fresh, others, fine_drop, key_written}
+use Rattle.rewrites.proofs.KeyLists.{each_left, each_right, ascending_left, ascending_cross, keys_left, keys_right, keys_append}
+use Rattle.rewrites.proofs.RewriteLaws as laws
 use Rattle.rewrites.proofs.TakenLaws.{replaces, each_taken}
 
 -- No key after the first of the bounds, if there is one.
@@ -87,7 +85,7 @@ module _ (o : WordKind) (ordered : WordOrdered o) where
   last_most (p ∷ []) h = (ordered.irreflexive p.key, tt)
   last_most (p ∷ q ∷ ps) h = (not_back o ordered p.key (last_key (q ∷ ps)) (last_in _ (q ∷ ps) (omega arith) h.0), last_most (q ∷ ps) h.1)
 
-  module _ (a : List ℕ) (post : List ℕ) where
+  module _ (a b post : List ℕ) (kept_post : KeptLeaves a b post) where
     filled_keys : (P : ℕ × ℕ → Type 0) (next : ℕ) (f : Filling) → Filled a next f → Each P f.content → (s : ℕ) → s < count_of a f.leaf → P (element a f.leaf s).key
     filled_keys P next f filled h s l = let c = filled.count in key_written o ordered a f.leaf P 0 f.content filled.written h s (omega arith) (omega arith)
 
@@ -101,51 +99,57 @@ module _ (o : WordKind) (ordered : WordOrdered o) where
     last_bounded j (p ∷ ps) [] g t = t
     last_bounded j (p ∷ ps) (e ∷ es) g t = (g, t.0, t.1)
 
-    new_bounded : (f : Filling) (fs : List Filling) (ds : List (ℕ × ℕ)) → AllFilled a post (f ∷ fs) → Fillings SomePairs (f ∷ fs) → Ascending o (contents (f ∷ fs)) → Each (λ x. Keys (λ y. o.before x y ≡ true) a post) (contents (f ∷ fs)) → Each (Low o ds) (contents (f ∷ fs)) → Tail o a post ds
-        → Bounded o a (f.leaf ∷ (leaf_numbers fs ++ post)) (inner_bounds (f ∷ fs) ++ ds)
-    new_bounded f [] ds filled small up below low rest = last_bounded f.leaf post ds (filled_keys (Low o ds) _ f filled.0 (each_left _ f.content [] low)) rest
-    new_bounded f (g ∷ fs) ds filled small up below low rest =
+    tail_kept : (ps : List ℕ) (ds : List (ℕ × ℕ)) → KeptLeaves a b ps → Tail o b ps ds → Tail o a ps ds
+    tail_kept [] [] kept h = tt
+    tail_kept [] (d ∷ ds) kept h = h
+    tail_kept (p ∷ ps) [] kept h = h
+    tail_kept (p ∷ ps) (d ∷ ds) kept h = (keys_kept o ordered a b (λ x. o.before d x ≡ true) (p ∷ ps) kept h.0, bounded_kept o ordered a b (p ∷ ps) ds kept h.1)
+
+    new_bounded : (f : Filling) (fs : List Filling) (ds : List (ℕ × ℕ)) → Fresh o a b post (f ∷ fs) → Each (Low o ds) (contents (f ∷ fs)) → Tail o a post ds → Bounded o a (f.leaf ∷ (leaf_numbers fs ++ post)) (inner_bounds (f ∷ fs) ++ ds)
+    new_bounded f [] ds new low rest = last_bounded f.leaf post ds (filled_keys (Low o ds) _ f new.filled.0 (each_left _ f.content [] low)) rest
+    new_bounded f (g ∷ fs) ds new low rest =
         let here = f.content in
         let more = contents (g ∷ fs) in
         let key = last_key f.content in
-        let cross = last_in (λ x. Each (λ y. o.before x y ≡ true) more) here small.0.0 (ascending_cross o here more up) in
-        let later = last_in (λ x. Keys (λ y. o.before x y ≡ true) a post) here small.0.0 (each_left _ here more below) in
+        let some = new.sizes.0.0 in
+        let cross = last_in (λ x. Each (λ y. o.before x y ≡ true) more) here some (ascending_cross o here more new.up) in
+        let later = last_in (λ x. Keys (λ y. o.before x y ≡ true) b post) here some (each_left _ here more new.below) in
         bounded_cons a f.leaf (g.leaf ∷ (leaf_numbers fs ++ post)) key (inner_bounds (g ∷ fs) ++ ds)
-        (filled_keys (λ x. o.before key x ≡ false) _ f filled.0 (last_most here (ascending_left o here more up)))
-        (keys_append (λ x. o.before key x ≡ true) a (leaf_numbers (g ∷ fs)) post (numbers_keys (λ x. o.before key x ≡ true) (g ∷ fs) filled.1 cross) later)
-        (new_bounded g fs ds filled.1 small.1 (ascending_right o here more up) (each_right _ here more below) (each_right _ here more low) rest)
-
-  tail_kept : (a b post : List ℕ) (ds : List (ℕ × ℕ)) → KeptLeaves a b post → Tail o b post ds → Tail o a post ds
-  tail_kept a b [] [] kept h = tt
-  tail_kept a b [] (d ∷ ds) kept h = h
-  tail_kept a b (p ∷ post) [] kept h = h
-  tail_kept a b (p ∷ post) (d ∷ ds) kept h = (keys_kept o ordered a b (λ x. o.before d x ≡ true) (p ∷ post) kept h.0, bounded_kept o ordered a b (p ∷ post) ds kept h.1)
+        (filled_keys (λ x. o.before key x ≡ false) _ f new.filled.0 (last_most here (ascending_left o here more new.up)))
+        (keys_append (λ x. o.before key x ≡ true) a (leaf_numbers (g ∷ fs)) post (numbers_keys (λ x. o.before key x ≡ true) (g ∷ fs) new.filled.1 cross) (keys_kept o ordered a b (λ x. o.before key x ≡ true) post kept_post later))
+        (new_bounded g fs ds (others o ordered a b post f (g ∷ fs) new) (each_right _ here more low) rest)
 
   locate_low : (w : ℕ × ℕ) (bs : List (ℕ × ℕ)) → 0 ≡ locate o w bs → Low o bs w
   locate_low w [] e = tt
   locate_low w (c ∷ cs) e = ⊎_elim (λ t. absurd (let z = e ∙ cond-true (o.before c w) (suc (locate o w cs)) 0 t in omega arith)) (λ f. f) (cases_Bool (o.before c w))
 
+  -- The new leaves take the keys of leaf k and of the leaves that merge with it, and perhaps w.
   module _ (a b : List ℕ) (k : ℕ) (more post : List ℕ) (w : ℕ × ℕ) (f : Filling) (fs : List Filling) (taken : (P : ℕ × ℕ → Type 0) → P w → Keys P b (k ∷ more) → Each P (contents (f ∷ fs)))
-      (busy : Busy b more) (kept_post : KeptLeaves a b post) (filled : AllFilled a post (f ∷ fs)) (small : Fillings SomePairs (f ∷ fs)) (up : Ascending o (contents (f ∷ fs))) (below : Each (λ x. Keys (λ y. o.before x y ≡ true) a post) (contents (f ∷ fs))) where
-    pub relinked_bounded : (pre : List ℕ) (bs : List (ℕ × ℕ)) → KeptLeaves a b pre → length pre ≡ locate o w bs → Bounded o b (pre ++ ((k ∷ more) ++ post)) bs → Bounded o a (pre ++ (leaf_numbers (f ∷ fs) ++ post)) (bounds_after (length pre) (length more) (f ∷ fs) bs)
-    relinked_bounded [] bs kept at h =
+      (busy : Busy b more) (kept_post : KeptLeaves a b post) (new : Fresh o a b post (f ∷ fs)) where
+    -- Where all keys of the old leaves are after a bound, all of the new ones are.
+    all_after : (c : ℕ × ℕ) (pre : List ℕ) → KeptLeaves a b pre → o.before c w ≡ true → Keys (λ x. o.before c x ≡ true) b (pre ++ ((k ∷ more) ++ post)) → Keys (λ x. o.before c x ≡ true) a (pre ++ (leaf_numbers (f ∷ fs) ++ post))
+    all_after c pre kept past keys =
+        let P : ℕ × ℕ → Type 0 = λ x. o.before c x ≡ true in
+        let rest = keys_right b P pre ((k ∷ more) ++ post) keys in
+        let before = keys_kept o ordered a b P pre kept (keys_left b P pre ((k ∷ more) ++ post) keys) in
+        let here = numbers_keys a b post kept_post P (f ∷ fs) new.filled (taken P past (keys_left b P (k ∷ more) post rest)) in
+        let after = keys_kept o ordered a b P post kept_post (keys_right b P (k ∷ more) post rest) in
+        keys_append P a pre (leaf_numbers (f ∷ fs) ++ post) before (keys_append P a (leaf_numbers (f ∷ fs)) post here after)
+
+    pub rewritten_bounded : (pre : List ℕ) (bs : List (ℕ × ℕ)) → KeptLeaves a b pre → length pre ≡ locate o w bs → Bounded o b (pre ++ ((k ∷ more) ++ post)) bs
+        → Bounded o a (pre ++ (leaf_numbers (f ∷ fs) ++ post)) (bounds_after (length pre) (length more) (f ∷ fs) bs)
+    rewritten_bounded [] bs kept at h =
         let e : 0 + length more ≡ length more = omega arith in
         let ds = drop (length more) bs in
-        rw e (new_bounded a post f fs ds filled small up below
-        (taken (Low o ds) (low_far b k more post bs w busy h (locate_low w bs at)) (low_keys b k more post bs busy h)) (tail_kept a b post ds kept_post (tail_of b k more post bs h)))
-    relinked_bounded (j ∷ pre) [] kept at h = absurd (bounded_none b j pre k (more ++ post) h)
-    relinked_bounded (j ∷ pre) (c ∷ cs) kept at h =
+        let low = taken (Low o ds) (low_far b k more post bs w busy h (locate_low w bs at)) (low_keys b k more post bs busy h) in
+        rw e (new_bounded a b post kept_post f fs ds new low (tail_kept a b post kept_post post ds kept_post (tail_of b k more post bs h)))
+    rewritten_bounded (j ∷ pre) [] kept at h = absurd (bounded_none b j pre k (more ++ post) h)
+    rewritten_bounded (j ∷ pre) (c ∷ cs) kept at h =
         let e : suc (length pre) + length more ≡ suc (length pre + length more) = omega arith in
         let (past, here) = locate_more o ordered w c cs (length pre) at in
         let (most, keys, rest) = bounded_parts b j pre k (more ++ post) c cs h in
-        let P : ℕ × ℕ → Type 0 = λ x. o.before c x ≡ true in
-        let right = keys_right b (λ x. o.before c x ≡ true) pre ((k ∷ more) ++ post) keys in
         rw e (bounded_cons a j (pre ++ (leaf_numbers (f ∷ fs) ++ post)) c _
-        (keys_kept o ordered a b (λ x. o.before c x ≡ false) (j ∷ []) (kept.0, tt) (most, tt)).0
-        (keys_append (λ x. o.before c x ≡ true) a pre (leaf_numbers (f ∷ fs) ++ post) (keys_kept o ordered a b (λ x. o.before c x ≡ true) pre kept.1 (keys_left b (λ x. o.before c x ≡ true) pre ((k ∷ more) ++ post) keys))
-        (keys_append (λ x. o.before c x ≡ true) a (leaf_numbers (f ∷ fs)) post (numbers_keys a post (λ x. o.before c x ≡ true) (f ∷ fs) filled (taken (λ x. o.before c x ≡ true) past (keys_left b (λ x. o.before c x ≡ true) (k ∷ more) post right)))
-        (keys_kept o ordered a b (λ x. o.before c x ≡ true) post kept_post (keys_right b (λ x. o.before c x ≡ true) (k ∷ more) post right))))
-        (relinked_bounded pre cs kept.1 here rest))
+        (keys_kept o ordered a b (λ x. o.before c x ≡ false) (j ∷ []) (kept.0, tt) (most, tt)).0 (all_after c pre kept.1 past keys) (rewritten_bounded pre cs kept.1 here rest))
 
 busy_left : (m xs ys : List ℕ) → Busy m (xs ++ ys) → Busy m xs
 busy_left m [] ys h = tt
@@ -165,9 +169,8 @@ pub rewrite_bounds_hold : RewriteBounds
 rewrite_bounds_hold o ordered m pre k more post w xs [] bs r at h = let some = r.placed.some in absurd (omega arith)
 rewrite_bounds_hold o ordered m pre k more post w xs (f ∷ fs) bs r at h =
     let p = replaces o ordered m pre k more post w xs (f ∷ fs) r in
-    let new = finished m (rewrite_lines pre (f ∷ fs) post) in
-    let kept_pre = rewritten.kept_leaves o ordered m pre (k ∷ more) post (f ∷ fs) p pre (rewritten.pre_sized o ordered m pre (k ∷ more) post (f ∷ fs) p) (rewritten.pre_apart o ordered m pre (k ∷ more) post (f ∷ fs) p) in
-    let kept_post = rewritten.kept_leaves o ordered m pre (k ∷ more) post (f ∷ fs) p post (rewritten.post_sized o ordered m pre (k ∷ more) post (f ∷ fs) p) (rewritten.post_apart o ordered m pre (k ∷ more) post (f ∷ fs) p) in
-    relinked_bounded o ordered new m k more post w f fs (each_taken o ordered m pre k more post w xs (f ∷ fs) r)
-    (busy_more o m pre k more post (rewritten.opens o ordered m pre (k ∷ more) post (f ∷ fs) p).fine) kept_post (rewritten.all_filled o ordered m pre (k ∷ more) post (f ∷ fs) p) p.placed.filled p.ascends
-    (each_map o _ _ (λ x keys. keys_kept o ordered new m (λ y. o.before x y ≡ true) post kept_post keys) (contents (f ∷ fs)) p.below) pre bs kept_pre at h
+    let taken = each_taken o ordered m pre k more post w xs (f ∷ fs) r in
+    let busy = busy_more o m pre k more post (laws.opens o ordered m pre (k ∷ more) post (f ∷ fs) p).fine in
+    let post_kept = laws.post_kept o ordered m pre (k ∷ more) post (f ∷ fs) p in
+    let pre_kept = laws.pre_kept o ordered m pre (k ∷ more) post (f ∷ fs) p in
+    rewritten_bounded o ordered _ m k more post w f fs taken busy post_kept (laws.fresh o ordered m pre (k ∷ more) post (f ∷ fs) p) pre bs pre_kept at h

@@ -3,9 +3,10 @@ pub mod CostLaws
 pub mod ParityLaws
 pub mod LeafLists
 pub mod KeyLists
-pub mod Links
+pub mod LinkLaws
 pub mod NewLeaves
 pub mod NewWords
 pub mod RewriteLaws
 pub mod TakenLaws
 pub mod BoundLaws
+pub mod ExampleLaws

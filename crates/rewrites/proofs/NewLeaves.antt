@@ -153,7 +153,7 @@ module _ (o : WordKind) (ordered : WordOrdered o) (a b post : List ℕ) where
         let c = new.filled.0.count in
         greatest_before o a f.leaf (count_of a f.leaf) y (λ t l. key_written o ordered a f.leaf (λ k. o.before k y ≡ true) 0 f.content new.filled.0.written h t (omega arith) (omega arith))
 
-    others : Fresh o a b post fs
+    pub others : Fresh o a b post fs
     others = record {
       filled = new.filled.1;
       sizes = new.sizes.1;

@@ -21,7 +21,7 @@ use Rattle.appends.proofs.AppendLaws.{told, Sized, sized, leads_same}
 use Rattle.rewrites.specs.Rewrite.{Filling, leaf_numbers, contents, leaves_lines, first_leaf, link_at, link_commit, rewrite_lines, Fillings, Replaces, Replacements}
 use Rattle.books.proofs.OpensLaws.{opens_from, opens_to, Apart}
 use Rattle.rewrites.proofs.LeafLists.{member_parts, distinct_split, distinct_replaced, apart_swap, apart_parts, up_to_left, up_to_right, up_to_from, sized_left, sized_right, fillings_map, free_apart, numbers_up_to}
-use Rattle.rewrites.proofs.Links.{Links, leads_relinked, leads_rest, leads_first, link_leaf, LinkPlace, link_place, link_footprint, link_differs}
+use Rattle.rewrites.proofs.LinkLaws.{Links, leads_relinked, leads_rest, leads_first, link_leaf, LinkPlace, link_place, link_footprint, link_differs}
 use Rattle.rewrites.proofs.NewLeaves.{AllFilled, Fresh, leads_filled, all_fine_busy, around, new_pairs, replaced_fine}
 use Rattle.rewrites.proofs.NewWords.{Off, off_other, off_others, leaves_lines_spare, leaves_lines_proper, leaves_lines_filled, all_filled_set}
 
@@ -80,10 +80,10 @@ module _ (o : WordKind) (ordered : WordOrdered o) (m pre old post : List ℕ) (f
   all_sized : Sized m (pre ++ (old ++ post))
   all_sized = sized o m _ None (word m 2) (pre ++ (old ++ post)) opens.leads opens.within opens.fine
 
-  pub pre_sized : Sized m pre
+  pre_sized : Sized m pre
   pre_sized = sized_left m pre (old ++ post) all_sized
 
-  pub post_sized : Sized m post
+  post_sized : Sized m post
   post_sized = sized_right m old post (sized_right m pre (old ++ post) all_sized)
 
   firsts : Fillings (λ f. 1 ≤ f.leaf) fs
@@ -122,7 +122,7 @@ module _ (o : WordKind) (ordered : WordOrdered o) (m pre old post : List ℕ) (f
       let long = length_finished m (leaves_lines fs post) in
       rw (finished_last m (leaves_lines fs post) (link_commit pre fs post)) (get_or-set_same (finished m (leaves_lines fs post)) (link_at 2 pre) _ 0 (omega arith))
 
-  pub all_filled : AllFilled rewritten post fs
+  all_filled : AllFilled rewritten post fs
   all_filled =
       subst (λ (x : List ℕ). AllFilled x post fs) (sym (finished_last m (leaves_lines fs post) (link_commit pre fs post)))
       (all_filled_set (finished m (leaves_lines fs post)) post fs (link_at 2 pre) _ r.placed.filled link_off (leaves_lines_filled m fs post r.placed.filled firsts inside r.placed.distinct))
@@ -140,18 +140,18 @@ module _ (o : WordKind) (ordered : WordOrdered o) (m pre old post : List ℕ) (f
     each = λ s l. element_same j (0, 0) rewritten m s (λ i a b. within_leaf j i some other (omega arith) (omega arith));
   }
 
-  pub kept_leaves : (js : List ℕ) → Sized m js → Apart (leaf_numbers fs) js → KeptLeaves rewritten m js
+  kept_leaves : (js : List ℕ) → Sized m js → Apart (leaf_numbers fs) js → KeptLeaves rewritten m js
   kept_leaves [] sizes other = tt
   kept_leaves (j ∷ js) sizes other = (kept_leaf j sizes.0 sizes.2 other.0, kept_leaves js sizes.3 other.1)
 
-  pub pre_apart : Apart (leaf_numbers fs) pre
+  pre_apart : Apart (leaf_numbers fs) pre
   pre_apart = apart_left pre (old ++ post) apart
     where
       apart_left : (xs ys : List ℕ) → Apart (leaf_numbers fs) (xs ++ ys) → Apart (leaf_numbers fs) xs
       apart_left [] ys h = tt
       apart_left (x ∷ xs) ys h = (h.0, apart_left xs ys h.1)
 
-  pub post_apart : Apart (leaf_numbers fs) post
+  post_apart : Apart (leaf_numbers fs) post
   post_apart = apart_right old post (apart_right pre (old ++ post) apart)
     where
       apart_right : (xs ys : List ℕ) → Apart (leaf_numbers fs) (xs ++ ys) → Apart (leaf_numbers fs) ys
@@ -202,10 +202,10 @@ module _ (o : WordKind) (ordered : WordOrdered o) (m pre old post : List ℕ) (f
       let rest = leads_rest m (link_at 2 pre) old post (leads_rest m 2 pre (old ++ post) opens.leads) in
       rw (leads_first m _ post rest) at rest
 
-  pre_kept : KeptLeaves rewritten m pre
+  pub pre_kept : KeptLeaves rewritten m pre
   pre_kept = kept_leaves pre pre_sized pre_apart
 
-  post_kept : KeptLeaves rewritten m post
+  pub post_kept : KeptLeaves rewritten m post
   post_kept = kept_leaves post post_sized post_apart
 
   pub fresh : Fresh o rewritten m post fs

@@ -1,3 +1,4 @@
 pub mod Rewrite
 pub mod Bounds
 pub mod Parity
+pub mod Example

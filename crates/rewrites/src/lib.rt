@@ -7,6 +7,7 @@ ghost use Rattle.refusal.specs.declared.Refusal.TheVariants.{Outside};
 ghost use Rattle.fixed_vec.specs.Items.{items};
 ghost use Rattle.writes.specs.Writes.{onward, outcome, perform, single};
 ghost use Rattle.rewrites.specs.Bounds.{RewriteBounds};
+ghost use Rattle.rewrites.specs.Example.{Example};
 ghost use Rattle.rewrites.specs.Parity.{NeverEmpty};
 ghost use Rattle.rewrites.specs.Rewrite.{CostsFew, LeafCost, Replacements, RewriteCost, Rewritings, leaf_lines, leaf_steps, pair_words};
 
@@ -16,7 +17,7 @@ use memory::Memory;
 use refusal::Refusal;
 use writes::{write_lines, write_row};
 
-// The words of a leaf's pairs, four for each; a leaf has at most 16 pairs, so there is room.
+// The words of a new leaf's pairs, four for each.
 fn words_of(pairs: &[Pair]) -> FixedVec<u64, 64>
     requires { length pairs.now ≤ 16 }
     ensures { items result ≡ flat_map pair_words pairs.now }
@@ -30,8 +31,8 @@ fn words_of(pairs: &[Pair]) -> FixedVec<u64, 64>
     words
 }
 
-// Writes a leaf that is not linked yet: its pairs from slot 0 on, and then its next, its count and form 0. Granted steps are counted.
-// Refused with nothing stored where the leaf is not one of 1 to 64, or for more pairs than it has slots.
+// Writes a new leaf, which nothing links yet: its pairs from slot 0 on, and then its next, its count and form 0, until the first refusal.
+// Granted steps are counted. Refused without a step where there is no such leaf, or for more pairs than it has slots.
 pub fn write_leaf<M: Memory>(
     memory: &mut M,
     steps: &mut usize,
@@ -41,9 +42,9 @@ pub fn write_leaf<M: Memory>(
 ) -> Result<(), Refusal>
     ensures done { 1 ≤ leaf → leaf ≤ 64 → length pairs.now ≤ 16 → steps.old + leaf_steps (length pairs.now) < 2 ^ 64 → outcome (M.Memory.meaning memory.new) steps.new result ≡ onward steps.old (perform (M.Memory.meaning memory.old) (leaf_lines next (record { leaf = leaf; content = pairs.now }))) }
     ensures few { steps.new ≤ steps.old + leaf_steps (length pairs.now) }
-    ensures outside { (leaf < 1) ⊎ (64 < leaf) ⊎ (16 < length pairs.now) → (result ≡ Err Outside) × (M.Memory.meaning memory.new ≡ M.Memory.meaning memory.old) × (steps.new ≡ steps.old) }
+    ensures outside { (leaf < 1) ⊎ (64 < leaf) ⊎ (16 < length pairs.now) → outcome (M.Memory.meaning memory.new) steps.new result ≡ outcome (M.Memory.meaning memory.old) steps.old (Err Outside) }
 {
-    if leaf < 1 || leaf > 64 || pairs.len() > 16 {
+    if !(1..=64).contains(&leaf) || pairs.len() > 16 {
         return Err(Refusal::Outside);
     }
     let start = 8 + 72 * (leaf - 1);
@@ -52,7 +53,8 @@ pub fn write_leaf<M: Memory>(
     write_row(memory, steps, start, &[next as u64, pairs.len() as u64, 0])
 }
 
-// Makes one word link a leaf: the commit of a rewrite. Granted steps are counted.
+// Makes one word link a leaf: the commit of a rewrite. Granted steps are counted. The place is not checked here: the memory refuses
+// one that is outside.
 pub fn link<M: Memory>(
     memory: &mut M,
     steps: &mut usize,
@@ -80,7 +82,12 @@ pub fn costs_stand()
     ensures few { CostsFew }
 {}
 
-// No rewrite for a removal makes an empty leaf.
-pub fn parity_stands()
+// A removal never makes an empty leaf.
+pub fn removals_stand()
     ensures { NeverEmpty }
+{}
+
+// What the laws of appends and of rewrites ask for can be met.
+pub fn example_stands()
+    ensures { Example }
 {}
