@@ -80,7 +80,7 @@ module _ (o : WordKind) (ordered : WordOrdered o) where
   last_in P (p ∷ []) l h = h.0
   last_in P (p ∷ q ∷ ps) l h = last_in P (q ∷ ps) (omega arith) h.1
 
-  last_most : (ps : List Pair) → Ascending o ps → Each (λ x. o.before (last_key ps) x ≡ false) ps
+  pub last_most : (ps : List Pair) → Ascending o ps → Each (λ x. o.before (last_key ps) x ≡ false) ps
   last_most [] h = tt
   last_most (p ∷ []) h = (ordered.irreflexive p.key, tt)
   last_most (p ∷ q ∷ ps) h = (not_back o ordered p.key (last_key (q ∷ ps)) (last_in _ (q ∷ ps) (omega arith) h.0), last_most (q ∷ ps) h.1)

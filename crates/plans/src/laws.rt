@@ -1,0 +1,43 @@
+// The theorems of plans.
+ghost use Rattle.plans.specs.Decisions.{NeverSplit, SplitHalves, SplitOfSeventeen};
+ghost use Rattle.plans.specs.Deeds.{CallsChange, NothingChanges};
+ghost use Rattle.plans.specs.Free.{AllCandidates, AlwaysFree, TakesFree};
+ghost use Rattle.plans.specs.Laws.{CommitsChange, PlansHold, RemovesGo};
+ghost use Rattle.plans.specs.Sorts.{AppendsWithRoom, BoundsMove, LastIsGreatest};
+ghost use Rattle.plans.specs.Told.{DecisionLawful};
+
+// Whatever lawful choice rewrites leaves, a plan refuses only what must be refused; else it turns the book into the one with the call
+// done, in words that open to the plan's leaves and bounds, with one leaf free, in at most 87 steps.
+pub fn plans_stand()
+    ensures hold { PlansHold }
+    ensures removes { RemovesGo }
+    ensures commits { CommitsChange }
+{}
+
+// A call has something to do just where it changes the book.
+pub fn calls_stand()
+    ensures change { CallsChange }
+    ensures nothing { NothingChanges }
+{}
+
+// What the plans of each sort come to.
+pub fn sorts_stand()
+    ensures appends { AppendsWithRoom }
+    ensures bounds { BoundsMove }
+    ensures greatest { LastIsGreatest }
+{}
+
+// The rule decides lawfully, and splits into halves.
+pub fn decisions_stand()
+    ensures lawful { DecisionLawful }
+    ensures halves { SplitHalves }
+    ensures seventeen { SplitOfSeventeen }
+    ensures never { NeverSplit }
+{}
+
+// The leaf that is taken is the next one that is free, and there is one while not all are used.
+pub fn free_leaves_stand()
+    ensures takes { TakesFree }
+    ensures always { AlwaysFree }
+    ensures all { AllCandidates }
+{}
