@@ -36,7 +36,7 @@ use Rattle.plans.specs.declared.decision.Decision.{Decision}
 use Rattle.plans.specs.declared.decision.Decision.TheVariants.{Split, Merge, Replace}
 use Rattle.plans.specs.Deeds.{key_of, call_of, done, Goes}
 use Rattle.plans.specs.Told.{Told, Choice, most_pairs, Counted, Mergeable, LawfulFor, Lawful}
-use Rattle.plans.specs.Plan.{Tree, Site, site, pairs_of, granted, elements, wish, taken, fillings, Plan, refuse, nothing, writes, rewriting, rewritten, next_leaf, written, carried, plan_at, plan_by}
+use Rattle.plans.specs.Plan.{Tree, Site, site, pairs_of, granted, elements, wish, taken, fillings, Plan, refuse, nothing, writes, appending, rewriting, rewritten, next_leaf, written, carried, plan_at, plan_by}
 use Rattle.plans.specs.Laws.{Holds, PlansHold, RemovesGo, CommitsChange}
 use Rattle.plans.proofs.DecisionLaws.{most_seventeen}
 use Rattle.plans.proofs.FreeLaws.{taken_free}
@@ -187,7 +187,7 @@ module _ (o : WordKind) (ordered : WordOrdered o) (m pre : List ℕ) (k : ℕ) (
     written_holds xs ready =
         let now = all_applied o w xs (pairs_of o m k) in
         let told : Told = record { call = call_of d; pairs = length now; next = next_leaf o m post; free = word m 3 - length row } in
-        cond_both (leb (count_of m k + length xs) 16) (writes (slot_lines k (count_of m k) w xs) (raised k (count_of m k) xs) t) (rewritten o m t s now (choose told)) (Holds o m t d)
+        cond_both (leb (count_of m k + length xs) 16) (appending m t k w xs) (rewritten o m t s now (choose told)) (Holds o m t d)
         (λ yes.
         let fits = ready.fits (leb-true (count_of m k + length xs) 16 yes) in
         let turn = subst (λ ps. Turns o m (slot_lines k (count_of m k) w xs) (raised k (count_of m k) xs) row ps) ready.does (appends_hold o ordered m pre k post w xs fits) in (

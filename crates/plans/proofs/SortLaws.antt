@@ -13,7 +13,7 @@ use Rattle.plans.specs.Sorts.{steps_of, AppendsWithRoom, BoundsMove, LastIsGreat
 use Rattle.plans.proofs.SiteLaws.{site_tells}
 
 pub appends_with_room_hold : AppendsWithRoom
-appends_with_room_hold choose o ordered m t w sound valid =
+appends_with_room_hold choose o ordered m t w sound =
     let k = (site o t w).leaf in
     let at : (d : Deed) → Option ℕ → Plan = λ d held. carried choose o m t (site o t w) d (wish d held) in
     let there = site_tells o ordered m t w sound in
