@@ -4,5 +4,6 @@ pub mod Lengths
 pub mod CallLaws
 pub mod SiteLaws
 pub mod PlanLaws
+pub mod RisingLaws
 pub mod SortLaws
 pub mod ExampleLaws

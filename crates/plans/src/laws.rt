@@ -3,7 +3,7 @@ ghost use Rattle.plans.specs.Decisions.{NeverSplit, SplitHalves, SplitOfSeventee
 ghost use Rattle.plans.specs.Deeds.{CallsChange, NothingChanges};
 ghost use Rattle.plans.specs.Example.{Example};
 ghost use Rattle.plans.specs.Free.{AllCandidates, AlwaysFree, TakesFree};
-ghost use Rattle.plans.specs.Laws.{CommitsChange, PlansHold, RemovesGo};
+ghost use Rattle.plans.specs.Laws.{BoundsRise, CommitsChange, PlansHold, RemovesGo};
 ghost use Rattle.plans.specs.Sorts.{AppendsWithRoom, BoundsMove, LastIsGreatest};
 ghost use Rattle.plans.specs.Told.{DecisionLawful};
 
@@ -13,6 +13,7 @@ pub fn plans_stand()
     ensures hold { PlansHold }
     ensures removes { RemovesGo }
     ensures commits { CommitsChange }
+    ensures rise { BoundsRise }
 {}
 
 // A call has something to do just where it changes the book.
