@@ -7,6 +7,7 @@ use Rattle.rewrites.specs.Example.{zeros, stamps}
 use Rattle.plans.specs.declared.deed.Deed.{Deed}
 use Rattle.plans.specs.declared.deed.Deed.TheVariants.{Put, Change, Remove}
 use Rattle.plans.specs.Plan.{Tree, Plan, refuse, nothing, writes, plan}
+use Rattle.plans.specs.Laws.{Sound}
 use Rattle.plans.specs.Sorts.{steps_of}
 
 -- A day of 2024 at millisecond 0.
@@ -78,6 +79,8 @@ abbrev pub next_plan : Played → Deed → Plan
 next_plan p d = plan stamps p.words p.tree d
 
 pub record Example : Type 0 where
+  -- What the laws of plans ask for can be met.
+  pub sound : Sound stamps (formatted 3 220).words (formatted 3 220).tree
   pub split : SplitRow
   pub replace : ReplaceRow
   pub merge : MergeRow
