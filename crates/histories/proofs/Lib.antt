@@ -1,0 +1,6 @@
+pub mod DeedLaws
+pub mod PlainLaws
+pub mod RunLaws
+pub mod CallLaws
+pub mod HistoryLaws
+pub mod ListLaws
