@@ -1,5 +1,5 @@
 -- A call of an open logbook is answered as the plain book has it, and leaves what stands for it.
-use Rattle.std.proofs.Common.{◌≡◌, ℕ, ◌≤◌, List, Some, None, Ok, Err, Option, Result, sym, refl, ap, ◌∙◌, subst, inl, inr, ⊎_elim, arith}
+use Rattle.std.proofs.Common.{◌≡◌, ℕ, ◌<◌, ◌≤◌, List, Some, None, Ok, Err, Option, Result, sym, refl, ap, ◌∙◌, subst, inl, inr, ⊎_elim, arith}
 use Rattle.std.proofs.lemmas.Bool.{both_ways}
 use Rattle.std.proofs.lemmas.Option.{none-some}
 use Rattle.refusal.specs.declared.Refusal.{Refusal}
@@ -11,7 +11,7 @@ use Rattle.leaves.specs.Pairs.{lookup}
 use Rattle.leaves.specs.Ascent.{Ascending, all_pairs}
 use Rattle.leaves.proofs.BookLaws.{err_ok, book_ascends}
 use Rattle.writes.specs.Writes.{Store, LineWrite, fall, perform}
-use Rattle.writes.specs.Laws.{change}
+use Rattle.writes.specs.Laws.{Enough, change}
 use Rattle.writes.proofs.Runs.{fall_none}
 use Rattle.books.specs.Footprint.{book}
 use Rattle.books.proofs.QuestionLaws.{linked_is}
@@ -21,9 +21,9 @@ use Rattle.plans.specs.declared.deed.Deed.TheVariants.{Put, Change, Remove}
 use Rattle.plans.specs.Deeds.{key_of, Declines, BringsHeld, Goes}
 use Rattle.plans.specs.Plan.{Tree, Plan, refuse, nothing, writes}
 use Rattle.plans.specs.Laws.{Sound, Holds}
-use Rattle.histories.specs.PlainBook.{done, Waiting, PlainBook, plain, after_call}
+use Rattle.histories.specs.PlainBook.{done, Ending, finished, unfinished, neither, Waiting, PlainBook, plain, after_call}
 use Rattle.histories.specs.Outcome.{Logbook, blank, in_use, dark, State, Answer, Outcome, wrote, by_plan}
-use Rattle.histories.specs.Law.{RemoveLaw, OpenCall, CallLaw, Stands}
+use Rattle.histories.specs.Law.{RemoveLaw, OpenCall, EndingLaw, CallLaw, Stands}
 use Rattle.histories.proofs.DeedLaws.{declines_one, goes_not_declined, held_not_declined, goes_not_held, room_no_power, declined_no_room, declined_no_power}
 use Rattle.histories.proofs.PlainLaws.{reading_same, done_same, done_other, done_held}
 use Rattle.histories.proofs.RunLaws.{Granted, Refused, ends}
@@ -58,7 +58,7 @@ kept_stands o m dark ps (Some w) h = tt
 -- The law at a call, and what stands after it.
 abbrev pub CallStep : WordKind → PlainBook → State → Deed → Outcome → Type 0
 CallStep o b s d out =
-    CallLaw b s out.state d out.answer × Kept o out.state.memory out.state.logbook (after_call o d out.ending b).pairs (after_call o d out.ending b).waiting
+    CallLaw b s out.state d out.answer out.ending × Kept o out.state.memory out.state.logbook (after_call o d out.ending b).pairs (after_call o d out.ending b).waiting
 
 same_err : {A : Type 0} (e f : Refusal) → ◌≡◌ {A = Result A Refusal} (Err e) (Err f) → e ≡ f
 same_err {A} e f is = ap of is
@@ -94,14 +94,22 @@ module _ (o : WordKind) (ordered : WordOrdered o) (m : Words) (t : Tree) (settle
   ascends = subst (λ ks. Ascending o (all_pairs o m.live ks)) (sym (linked_is o ordered m.live t.leaves sound.opens)) (book_ascends o ordered m.live t.leaves sound.opens)
 
   -- The law at a call, from what is held of its key.
-  call_law : (d : Deed) (later : State) (a : Answer) → OpenCall (held d) s later d a → RemoveLaw d (held d) a → later.memory.power ≡ fall m.power a.steps → a.steps ≤ 87 → CallLaw (plain ps) s later d a
-  call_law d later a law removes spent few = record {
+  call_law : (d : Deed) (later : State) (a : Answer) (e : Ending) → OpenCall (held d) s later d a → RemoveLaw d (held d) a → EndingLaw (plain ps) s a e → later.memory.power ≡ fall m.power a.steps → a.steps ≤ 87 → CallLaw (plain ps) s later d a e
+  call_law d later a e law removes ends spent few = record {
     while_open = λ _. rw (reading_same (key_of d) ps) law;
     while_dark = λ w none. absurd (none-some w none);
     remove = rw (reading_same (key_of d) ps) removes;
+    ends = ends;
     spent = spent;
     few = few;
   }
+
+  refused_powered : (d : Deed) (e : Refusal) → Holds o m.live t d (refuse e) → e ≡ NoPower → ⊥
+  refused_powered d e good is =
+      ⊎_elim
+      (λ own. declined_no_power d (held d) (subst (Declines d (held d)) is own))
+      (λ room. room_no_power (sym room.0 ∙ is))
+      good
 
   refused_law : (d : Deed) (e : Refusal) → Holds o m.live t d (refuse e) → OpenCall (held d) s s d (record { result = Err e; steps = 0 })
   refused_law d e good = record {
@@ -124,12 +132,7 @@ module _ (o : WordKind) (ordered : WordOrdered o) (m : Words) (t : Tree) (settle
         (λ own. absurd (declined_no_room d (held d) (subst (Declines d (held d)) (same_err e NoRoom is) own)))
         (λ room. (room.1, room.2))
         good;
-    power = λ is.
-        absurd
-        (⊎_elim
-        (λ own. declined_no_power d (held d) (subst (Declines d (held d)) (same_err e NoPower is) own))
-        (λ room. room_no_power (sym room.0 ∙ same_err e NoPower is))
-        good);
+    power = λ is. absurd (refused_powered d e good (same_err e NoPower is));
     leaves = λ f is unpowered. (refl, refl);
     nothing = λ brings.
         absurd
@@ -137,6 +140,7 @@ module _ (o : WordKind) (ordered : WordOrdered o) (m : Words) (t : Tree) (settle
         (λ own. held_not_declined d (held d) e brings own)
         (λ room. goes_not_held d (held d) room.3 brings)
         good);
+    goes = λ undeclined room enough. absurd (⊎_elim (λ own. undeclined e own) (λ few. room few.2) good);
   }
 
   refused_removes : (d : Deed) (e : Refusal) → Holds o m.live t d (refuse e) → (a : Answer) → RemoveLaw d (held d) a
@@ -153,6 +157,7 @@ module _ (o : WordKind) (ordered : WordOrdered o) (m : Words) (t : Tree) (settle
     power = λ is. err_ok is refl;
     leaves = λ e is unpowered. err_ok is refl;
     nothing = λ brings. let (none, same) = idle brings in (ap (λ k. record { result = Ok (held d); steps = k }) none, same);
+    goes = λ undeclined room enough. refl;
   }
 
   granted_removes : (d : Deed) (n : ℕ) → RemoveLaw d (held d) (record { result = Ok (held d); steps = n })
@@ -161,14 +166,15 @@ module _ (o : WordKind) (ordered : WordOrdered o) (m : Words) (t : Tree) (settle
   granted_removes (Remove w) n = λ r is. inl (ap Ok is)
 
   -- A call that power broke off.
-  broken_law : (d : Deed) (later : State) (n : ℕ) → Goes d (held d) → m.power ≡ left n → OpenCall (held d) s later d (record { result = Err NoPower; steps = n })
-  broken_law d later n goes all = record {
+  broken_law : (d : Deed) (later : State) (n : ℕ) → Goes d (held d) → m.power ≡ left n → n < 87 → OpenCall (held d) s later d (record { result = Err NoPower; steps = n })
+  broken_law d later n goes all few = record {
     grants = λ had is. err_ok refl is;
     declines = λ e unroom unpowered. (λ is. absurd (unpowered (sym (same_err NoPower e is))), λ own. absurd (goes_not_declined d (held d) e goes own));
     room = λ is. absurd (room_no_power (sym (same_err NoPower NoRoom is)));
-    power = λ is. all;
+    power = λ is. (all, few);
     leaves = λ e is unpowered. absurd (unpowered (sym (same_err NoPower e is)));
     nothing = λ brings. absurd (goes_not_held d (held d) goes brings);
+    goes = λ undeclined room enough. let many = subst (λ p. Enough p 87) all enough in absurd (omega arith);
   }
 
   -- What a call writes, granted or broken off.
@@ -181,16 +187,16 @@ module _ (o : WordKind) (ordered : WordOrdered o) (m : Words) (t : Tree) (settle
       ⊎_elim
       (λ (g : Granted m (change before commit) r).
       subst (λ a. CallStep o (plain ps) s d (wrote a r commit new (held d))) (sym g.ended) (
-        call_law d (record { memory = r.after; logbook = in_use new }) (record { result = Ok (held d); steps = r.steps })
+        call_law d (record { memory = r.after; logbook = in_use new }) (record { result = Ok (held d); steps = r.steps }) finished
             (granted_law d (record { memory = r.after; logbook = in_use new }) r.steps (λ e own. goes_not_declined d (held d) e goes own) (λ brings. absurd (goes_not_held d (held d) goes brings)))
-            (granted_removes d r.steps) g.spent (omega (arith, g.few, good.few)),
+            (granted_removes d r.steps) (held d, refl) g.spent (omega (arith, g.few, good.few)),
         (g.settled, subst (λ words. Sound o words new) (sym g.words) good.sound, subst (λ words. book o words ≡ done o d ps) (sym g.words) turns.done.1),
       ))
       (λ (b : Refused m (change before commit) r).
       subst (λ a. CallStep o (plain ps) s d (wrote a r commit new (held d))) (sym b.ended) (
-        call_law d (record { memory = r.after; logbook = dark }) (record { result = Err NoPower; steps = r.steps })
-            (broken_law d (record { memory = r.after; logbook = dark }) r.steps goes b.all)
-            (unpowered_removes d (held d) r.steps) b.spent (omega (arith, b.few, good.few)),
+        call_law d (record { memory = r.after; logbook = dark }) (record { result = Err NoPower; steps = r.steps }) (unfinished commit)
+            (broken_law d (record { memory = r.after; logbook = dark }) r.steps goes b.all (omega (arith, b.few, good.few)))
+            (unpowered_removes d (held d) r.steps) (refl, refl, turns.differs) b.spent (omega (arith, b.few, good.few)),
         record {
           old = m;
           before = before;
@@ -206,9 +212,12 @@ module _ (o : WordKind) (ordered : WordOrdered o) (m : Words) (t : Tree) (settle
       (ends m (change before commit) settled turns.proper)
 
   pub call_step : (d : Deed) (p : Plan) → Holds o m.live t d p → CallStep o (plain ps) s d (by_plan m t (held d) p)
-  call_step d (refuse e) good = (call_law d s (record { result = Err e; steps = 0 }) (refused_law d e good) (refused_removes d e good (record { result = Err e; steps = 0 })) (sym (fall_none m.power)) (omega arith), (settled, sound, refl))
+  call_step d (refuse e) good = (
+    call_law d s (record { result = Err e; steps = 0 }) neither (refused_law d e good) (refused_removes d e good (record { result = Err e; steps = 0 })) (e, refl, λ none. refused_powered d e good) (sym (fall_none m.power)) (omega arith),
+    (settled, sound, refl),
+  )
   call_step d nothing good = (
-    call_law d s (record { result = Ok (held d); steps = 0 }) (granted_law d s 0 (λ e own. held_not_declined d (held d) e good own) (λ brings. (refl, refl))) (granted_removes d 0) (sym (fall_none m.power)) (omega arith),
+    call_law d s (record { result = Ok (held d); steps = 0 }) finished (granted_law d s 0 (λ e own. held_not_declined d (held d) e good own) (λ brings. (refl, refl))) (granted_removes d 0) (held d, refl) (sym (fall_none m.power)) (omega arith),
     (settled, sound, sym (done_held o ordered d ps ascends good)),
   )
   call_step d (writes before commit new) good = write_step d before commit new good

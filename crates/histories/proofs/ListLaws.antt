@@ -31,4 +31,15 @@ law_of_lists_holds choose lawful o ordered m leaves f acts keyed =
 
 pub example_holds : Example
 unfolding perform run
-example_holds = record { formats = record { settled = refl; roomy = record { least = omega arith; most = omega arith; fits = omega arith }; granted = refl }; answers = refl }
+example_holds = record {
+  granted = record { settled = refl; roomy = record { least = omega arith; most = omega arith; fits = omega arith }; granted = refl };
+  left_over = refl;
+  told = refl;
+  kept = refl;
+  lost = refl;
+  told_fewer = refl;
+  fewer_kept = refl;
+  fewer_lost = refl;
+  told_enough = refl;
+  enough = refl;
+}

@@ -1,5 +1,5 @@
 -- How line writes end on a settled memory, and the steps that they take.
-use Rattle.std.proofs.Common.{◌≡◌, ◌≤◌, ◌⊎◌, List, Ok, Err, sym, refl, ap, ◌∙◌, inl, inr, ⊎_elim, arith}
+use Rattle.std.proofs.Common.{◌≡◌, ◌<◌, ◌≤◌, ◌⊎◌, List, Ok, Err, sym, refl, ap, ◌∙◌, inl, inr, ⊎_elim, arith}
 use Rattle.refusal.specs.declared.Refusal.TheVariants.{NoPower}
 use Rattle.memory.specs.Meaning.{Words, left, size_of, Settled}
 use Rattle.writes.specs.Writes.{LineWrite, Run, perform, cost, finished, fall, Proper}
@@ -19,7 +19,7 @@ pub record Refused (m : Words) (ws : List LineWrite) (r : Run) : Type 0 where
   pub ended : r.ended ≡ Err NoPower
   pub all : m.power ≡ left r.steps
   pub spent : r.after.power ≡ fall m.power r.steps
-  pub few : r.steps ≤ cost ws
+  pub few : r.steps < cost ws
 
 pub ends : (m : Words) (ws : List LineWrite) → Settled m → Proper (size_of m) ws → Granted m ws (perform m ws) ⊎ Refused m ws (perform m ws)
 ends m ws settled proper =

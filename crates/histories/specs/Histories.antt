@@ -32,6 +32,11 @@ abbrev pub History : Choice → WordKind → State → List Event → Type 0
 History choose o s [] = Unit {0}
 History choose o s (e ∷ es) = Happens choose o s e × History choose o (after choose o s e) es
 
+-- The state after all of them.
+abbrev pub reached : Choice → WordKind → State → List Event → State
+reached choose o s [] = s
+reached choose o s (e ∷ es) = reached choose o (after choose o s e) es
+
 -- What is asked for: a call, a question, or a cut that keeps the live word where its test says so, else the firm one.
 pub data Act : Type 0 where
   call : Deed → Act

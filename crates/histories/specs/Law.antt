@@ -8,7 +8,7 @@ use Rattle.leaves.specs.declared.leaf.Pair.{Pair}
 use Rattle.leaves.specs.Layout.{word}
 use Rattle.leaves.specs.Opening.{open_answer}
 use Rattle.writes.specs.Writes.{fall}
-use Rattle.writes.specs.Laws.{New}
+use Rattle.writes.specs.Laws.{Enough, New}
 use Rattle.books.specs.Footprint.{book}
 use Rattle.books.specs.Format.{Roomy, formatted}
 use Rattle.turns.specs.Turns.{stands_new}
@@ -18,7 +18,7 @@ use Rattle.plans.specs.Deeds.{key_of, call_of, may_split, Declines, BringsHeld}
 use Rattle.plans.specs.Told.{Choice, Lawful, by_rule}
 use Rattle.plans.specs.Plan.{Tree}
 use Rattle.plans.specs.Laws.{Sound}
-use Rattle.histories.specs.PlainBook.{reading_of, done, Question, Reply, refused, tells, Waiting, PlainBook, plain, after_call, after_cut}
+use Rattle.histories.specs.PlainBook.{reading_of, done, Question, Reply, refused, tells, Ending, finished, unfinished, neither, Waiting, PlainBook, plain, after_call, after_cut}
 use Rattle.histories.specs.Outcome.{State, Logbook, in_use, dark, Answer}
 use Rattle.histories.specs.Histories.{Event, called, asked, cut, after, History, Act, Keyed, played}
 
@@ -57,18 +57,28 @@ pub record OpenCall (held : Option ℕ) (before later : State) (d : Deed) (a : A
   pub declines : (e : Refusal) → e ≢ NoRoom → e ≢ NoPower → ExactlyWhen (a.result ≡ Err e) (Declines d held e)
   -- for room only where it may split, and fewer than two leaves are free;
   pub room : a.result ≡ Err NoRoom → (may_split (call_of d) ≡ true) × FewFree before.memory before.logbook
-  -- for power only with all steps taken that were left;
-  pub power : a.result ≡ Err NoPower → before.memory.power ≡ left a.steps
+  -- for power only with all steps taken that were left, fewer than 87;
+  pub power : a.result ≡ Err NoPower → (before.memory.power ≡ left a.steps) × (a.steps < 87)
   -- a refusal other than for power leaves everything, and takes no step;
   pub leaves : (e : Refusal) → a.result ≡ Err e → e ≢ NoPower → (later ≡ before) × (a.steps ≡ 0)
   -- so does a change to the reading held, which is granted.
   pub nothing : BringsHeld d held → (a ≡ record { result = Ok held; steps = 0 }) × (later ≡ before)
+  -- So a call that the plain book does not decline is granted where two leaves are free and 87 steps are left.
+  pub goes : ((e : Refusal) → Declines d held e → ⊥) → (FewFree before.memory before.logbook → ⊥) → Enough before.memory.power 87 → a.result ≡ Ok held
 
-pub record CallLaw (b : PlainBook) (before later : State) (d : Deed) (a : Answer) : Type 0 where
+-- A call is finished when it is granted. It is unfinished when an open logbook refuses it for power, and its commit word does not stand yet. Else
+-- it is neither.
+abbrev pub EndingLaw : PlainBook → State → Answer → Ending → Type 0
+EndingLaw b before a finished = (had : Option ℕ) × (a.result ≡ Ok had)
+EndingLaw b before a (unfinished commit) = (b.waiting ≡ None) × (a.result ≡ Err NoPower) × (New commit before.memory.live → ⊥)
+EndingLaw b before a neither = (e : Refusal) × (a.result ≡ Err e) × (b.waiting ≡ None → e ≢ NoPower)
+
+pub record CallLaw (b : PlainBook) (before later : State) (d : Deed) (a : Answer) (e : Ending) : Type 0 where
   pub while_open : b.waiting ≡ None → OpenCall (reading_of (key_of d) b.pairs) before later d a
   -- While a call waits the logbook is dark: refused for power, without a step.
   pub while_dark : (w : Waiting) → b.waiting ≡ Some w → (a ≡ record { result = Err NoPower; steps = 0 }) × (later ≡ before)
   pub remove : RemoveLaw d (reading_of (key_of d) b.pairs) a
+  pub ends : EndingLaw b before a e
   -- The steps told are those that the memory granted, never more than 87.
   pub spent : later.memory.power ≡ fall before.memory.power a.steps
   pub few : a.steps ≤ 87
@@ -79,7 +89,7 @@ pub record QuestionLaw (o : WordKind) (b : PlainBook) (q : Question) (r : Reply)
   pub while_dark : (w : Waiting) → b.waiting ≡ Some w → r ≡ refused NoPower
 
 abbrev pub EventLaw : WordKind → PlainBook → State → State → Event → Type 0
-EventLaw o b before later (called d a e) = CallLaw b before later d a
+EventLaw o b before later (called d a e) = CallLaw b before later d a e
 EventLaw o b before later (asked q r) = QuestionLaw o b q r
 EventLaw o b before later (cut words power) = CutLaw o b words
 
@@ -95,6 +105,10 @@ fed o (called d a e) b = after_call o d e b
 fed o (asked q r) b = b
 fed o (cut words power) b = after_cut o (λ commit. stands_new commit words) b
 
+abbrev pub fed_all : WordKind → List Event → PlainBook → PlainBook
+fed_all o [] b = b
+fed_all o (e ∷ es) b = fed_all o es (fed o e b)
+
 -- THE LAW, at each event, with the plain book fed all events before it.
 abbrev pub HistoryLaw : Choice → WordKind → State → PlainBook → List Event → Type 0
 HistoryLaw choose o s b [] = Stands o s.memory s.logbook b.pairs b.waiting
@@ -108,7 +122,7 @@ LawfulFrom =
     HistoryLaw choose o (record { memory = m; logbook = in_use t }) (plain (book o m.live)) es
 
 -- A settled memory grants a format of so many leaves.
-pub record Formats (o : WordKind) (m : Words) (leaves : ℕ) : Type 0 where
+pub record FormatGranted (o : WordKind) (m : Words) (leaves : ℕ) : Type 0 where
   pub settled : Settled m
   pub roomy : Roomy m leaves
   pub granted : (formatted o m leaves).ended ≡ Ok tt
@@ -121,17 +135,17 @@ after_format o m leaves = record { memory = (formatted o m leaves).after; logboo
 -- history, that is every list of calls, questions and cuts, with any power and any mix at each cut.
 abbrev pub LawOfCuts : Type 0
 LawOfCuts =
-    (choose : Choice) → Lawful choose → (o : WordKind) → WordOrdered o → (m : Words) (leaves : ℕ) → Formats o m leaves →
+    (choose : Choice) → Lawful choose → (o : WordKind) → WordOrdered o → (m : Words) (leaves : ℕ) → FormatGranted o m leaves →
     (es : List Event) → History choose o (after_format o m leaves) es → HistoryLaw choose o (after_format o m leaves) (plain []) es
 
 -- By the rule.
 abbrev pub LawByRule : Type 0
 LawByRule =
-    (o : WordKind) → WordOrdered o → (m : Words) (leaves : ℕ) → Formats o m leaves →
+    (o : WordKind) → WordOrdered o → (m : Words) (leaves : ℕ) → FormatGranted o m leaves →
     (es : List Event) → History by_rule o (after_format o m leaves) es → HistoryLaw by_rule o (after_format o m leaves) (plain []) es
 
 -- So it holds of every list.
 abbrev pub LawOfLists : Type 0
 LawOfLists =
-    (choose : Choice) → Lawful choose → (o : WordKind) → WordOrdered o → (m : Words) (leaves : ℕ) → Formats o m leaves →
+    (choose : Choice) → Lawful choose → (o : WordKind) → WordOrdered o → (m : Words) (leaves : ℕ) → FormatGranted o m leaves →
     (acts : List Act) → Keyed o acts → HistoryLaw choose o (after_format o m leaves) (plain []) (played choose o (after_format o m leaves) acts)
