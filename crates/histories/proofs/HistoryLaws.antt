@@ -1,5 +1,5 @@
 -- Every history is lawful.
-use Rattle.std.proofs.Common.{◌≡◌, ℕ, Bool, List, [], ◌∷◌, ◌++◌, Some, None, Option, sym, refl, ap, ◌∙◌, subst, ⊎_elim, arith}
+use Rattle.std.proofs.Common.{◌≡◌, ℕ, Bool, List, [], ◌∷◌, Some, None, Option, sym, refl, ap, ◌∙◌, subst, ⊎_elim, arith}
 use Rattle.std.proofs.lemmas.Bool.{cases_Bool, cond-true, cond-false, eqb-true, eqb-false}
 use Rattle.std.proofs.lemmas.Option.{none-some, same_Some}
 use Rattle.refusal.specs.declared.Refusal.TheVariants.{NoPower}
@@ -20,8 +20,8 @@ use Rattle.plans.specs.Plan.{plan_by}
 use Rattle.plans.proofs.PlanLaws.{plans_hold}
 use Rattle.histories.specs.PlainBook.{done, Waiting, PlainBook}
 use Rattle.histories.specs.Outcome.{Logbook, blank, in_use, dark, State, found, opened, outcome, replies}
-use Rattle.histories.specs.Histories.{Event, called, asked, cut, Happens, after, History, reached}
-use Rattle.histories.specs.Law.{EventLaw, Stands, fed, fed_all, HistoryLaw, LawfulFrom}
+use Rattle.histories.specs.Histories.{Event, called, asked, cut, Happens, after, History}
+use Rattle.histories.specs.Law.{EventLaw, fed, HistoryLaw, LawfulFrom}
 use Rattle.histories.proofs.PlainLaws.{tells_same}
 use Rattle.histories.proofs.CallLaws.{Broken, Kept, kept_stands, CallStep, unpowered_removes, call_step}
 
@@ -116,20 +116,6 @@ module _ (choose : Choice) (lawful : Lawful choose) (o : WordKind) (ordered : Wo
   all_lawful s b (e ∷ es) kept h =
       let now = step s.memory s.logbook b.pairs b.waiting e kept h.0 in
       (kept_stands o s.memory s.logbook b.pairs b.waiting kept, now.0, all_lawful (after choose o s e) (fed o e b) es now.1 h.1)
-
--- What a history has reached stands for the plain book that was fed it.
-pub reached_stands : (choose : Choice) (o : WordKind) (s : State) (b : PlainBook) (es : List Event) → HistoryLaw choose o s b es → Stands o (reached choose o s es).memory (reached choose o s es).logbook (fed_all o es b).pairs (fed_all o es b).waiting
-reached_stands choose o s b [] law = law
-reached_stands choose o s b (e ∷ es) law = reached_stands choose o (after choose o s e) (fed o e b) es law.2
-
--- A history goes on from what it has reached.
-pub history_on : (choose : Choice) (o : WordKind) (s : State) (es fs : List Event) → History choose o s es → History choose o (reached choose o s es) fs → History choose o s (es ++ fs)
-history_on choose o s [] fs h more = more
-history_on choose o s (e ∷ es) fs h more = (h.0, history_on choose o (after choose o s e) es fs h.1 more)
-
-pub reached_on : (choose : Choice) (o : WordKind) (s : State) (es fs : List Event) → reached choose o s (es ++ fs) ≡ reached choose o (reached choose o s es) fs
-reached_on choose o s [] fs = refl
-reached_on choose o s (e ∷ es) fs = reached_on choose o (after choose o s e) es fs
 
 pub lawful_from_holds : LawfulFrom
 lawful_from_holds choose lawful o ordered m t settled sound es h = all_lawful choose lawful o ordered _ _ es (settled, sound, refl) h

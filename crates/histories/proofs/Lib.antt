@@ -3,4 +3,5 @@ pub mod PlainLaws
 pub mod RunLaws
 pub mod CallLaws
 pub mod HistoryLaws
+pub mod ReachedLaws
 pub mod ListLaws

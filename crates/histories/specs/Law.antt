@@ -1,5 +1,5 @@
 -- The law of cuts, at each event of a history.
-use Rattle.std.specs.Prelude.{◌≡◌, ℕ, ◌+◌, ◌<◌, ◌≤◌, true, ◌≢◌, ◌⊎◌, List, [], ◌∷◌, length, Some, None, Ok, Err, Option}
+use Rattle.std.specs.Prelude.{◌≡◌, ℕ, ◌+◌, ◌<◌, ◌≤◌, Bool, false, true, ◌≢◌, ◌⊎◌, List, [], ◌∷◌, length, Some, None, Ok, Err, Option}
 use Rattle.refusal.specs.declared.Refusal.{Refusal}
 use Rattle.refusal.specs.declared.Refusal.TheVariants.{NoPower, NoRoom}
 use Rattle.keys.specs.InWords.{WordKind, WordOrdered}
@@ -25,7 +25,7 @@ use Rattle.histories.specs.Histories.{Event, called, asked, cut, after, History,
 abbrev pub ExactlyWhen : Type 0 → Type 0 → Type 0
 ExactlyWhen A B = (A → B) × (B → A)
 
--- The waiting call's commit word stands new.
+-- A call waits, and its commit word stands new.
 abbrev pub StandsNew : Option Waiting → List ℕ → Type 0
 StandsNew None words = ⊥
 StandsNew (Some w) words = New w.commit words
@@ -99,11 +99,16 @@ Stands o m (in_use t) ps None = Settled m × Sound o m.live t × (book o m.live 
 Stands o m dark ps (Some w) = Unit {0}
 Stands o m _ ps _ = ⊥
 
+-- Whether the waiting call's commit word stands new.
+abbrev pub waiting_stands : Option Waiting → List ℕ → Bool
+waiting_stands None words = false
+waiting_stands (Some w) words = stands_new w.commit words
+
 -- The plain book after an event.
 abbrev pub fed : WordKind → Event → PlainBook → PlainBook
 fed o (called d a e) b = after_call o d e b
 fed o (asked q r) b = b
-fed o (cut words power) b = after_cut o (λ commit. stands_new commit words) b
+fed o (cut words power) b = after_cut o (waiting_stands b.waiting words) b
 
 abbrev pub fed_all : WordKind → List Event → PlainBook → PlainBook
 fed_all o [] b = b

@@ -82,9 +82,9 @@ after_call o d (unfinished commit) b = record { pairs = b.pairs; waiting = Some 
 after_call o d neither b = b
 
 -- At a cut the waiting call is done if its commit word stands new, else dropped.
-abbrev pub decided : WordKind → (Store → Bool) → Option Waiting → List Pair → List Pair
-decided o stands None ps = ps
-decided o stands (Some w) ps = cond (stands w.commit) (done o w.deed ps) ps
+abbrev pub decided : WordKind → Bool → Option Waiting → List Pair → List Pair
+decided o new None ps = ps
+decided o new (Some w) ps = cond new (done o w.deed ps) ps
 
-abbrev pub after_cut : WordKind → (Store → Bool) → PlainBook → PlainBook
-after_cut o stands b = plain (decided o stands b.waiting b.pairs)
+abbrev pub after_cut : WordKind → Bool → PlainBook → PlainBook
+after_cut o new b = plain (decided o new b.waiting b.pairs)
