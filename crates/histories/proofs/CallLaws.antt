@@ -1,5 +1,5 @@
 -- A call of an open logbook is answered as the plain book has it, and leaves what stands for it.
-use Rattle.std.proofs.Common.{◌≡◌, ℕ, ◌<◌, ◌≤◌, List, Some, None, Ok, Err, Option, Result, sym, refl, ap, ◌∙◌, subst, inl, inr, ⊎_elim, arith}
+use Rattle.std.proofs.Common.{◌≡◌, ℕ, ◌+◌, ◌<◌, ◌≤◌, List, Some, None, Ok, Err, Option, Result, sym, refl, ap, ◌∙◌, subst, inl, inr, ⊎_elim, arith}
 use Rattle.std.proofs.lemmas.Bool.{both_ways}
 use Rattle.std.proofs.lemmas.Option.{none-some}
 use Rattle.refusal.specs.declared.Refusal.{Refusal}
@@ -7,6 +7,7 @@ use Rattle.refusal.specs.declared.Refusal.TheVariants.{NoPower, NoRoom}
 use Rattle.keys.specs.InWords.{WordKind, WordOrdered}
 use Rattle.memory.specs.Meaning.{Words, left, Settled}
 use Rattle.leaves.specs.declared.leaf.Pair.{Pair}
+use Rattle.leaves.specs.Layout.{count_of}
 use Rattle.leaves.specs.Pairs.{lookup}
 use Rattle.leaves.specs.Ascent.{Ascending, all_pairs}
 use Rattle.leaves.proofs.BookLaws.{err_ok, book_ascends}
@@ -18,12 +19,12 @@ use Rattle.books.proofs.QuestionLaws.{linked_is}
 use Rattle.turns.specs.Turns.{HoldsBook, Turns}
 use Rattle.plans.specs.declared.deed.Deed.{Deed}
 use Rattle.plans.specs.declared.deed.Deed.TheVariants.{Put, Change, Remove}
-use Rattle.plans.specs.Deeds.{key_of, Declines, BringsHeld, Goes}
-use Rattle.plans.specs.Plan.{Tree, Plan, refuse, nothing, writes}
+use Rattle.plans.specs.Deeds.{key_of, call_of, Declines, BringsHeld, Goes}
+use Rattle.plans.specs.Plan.{Tree, site, Plan, refuse, nothing, writes}
 use Rattle.plans.specs.Laws.{Sound, Holds}
 use Rattle.histories.specs.PlainBook.{done, Ending, finished, unfinished, neither, Waiting, PlainBook, plain, after_call}
 use Rattle.histories.specs.Outcome.{Logbook, blank, in_use, dark, State, Answer, Outcome, wrote, by_plan}
-use Rattle.histories.specs.Law.{RemoveLaw, OpenCall, EndingLaw, CallLaw, Stands}
+use Rattle.histories.specs.Law.{elements_of, RemoveLaw, OpenCall, EndingLaw, CallLaw, Stands}
 use Rattle.histories.proofs.DeedLaws.{declines_one, goes_not_declined, held_not_declined, goes_not_held, room_no_power, declined_no_room, declined_no_power}
 use Rattle.histories.proofs.PlainLaws.{reading_same, done_same, done_other, done_held}
 use Rattle.histories.proofs.RunLaws.{Granted, Refused, ends}
@@ -58,7 +59,7 @@ kept_stands o m dark ps (Some w) h = tt
 -- The law at a call, and what stands after it.
 abbrev pub CallStep : WordKind → PlainBook → State → Deed → Outcome → Type 0
 CallStep o b s d out =
-    CallLaw b s out.state d out.answer out.ending × Kept o out.state.memory out.state.logbook (after_call o d out.ending b).pairs (after_call o d out.ending b).waiting
+    CallLaw o b s out.state d out.answer out.ending × Kept o out.state.memory out.state.logbook (after_call o d out.ending b).pairs (after_call o d out.ending b).waiting
 
 same_err : {A : Type 0} (e f : Refusal) → ◌≡◌ {A = Result A Refusal} (Err e) (Err f) → e ≡ f
 same_err {A} e f is = ap of is
@@ -94,7 +95,7 @@ module _ (o : WordKind) (ordered : WordOrdered o) (m : Words) (t : Tree) (settle
   ascends = subst (λ ks. Ascending o (all_pairs o m.live ks)) (sym (linked_is o ordered m.live t.leaves sound.opens)) (book_ascends o ordered m.live t.leaves sound.opens)
 
   -- The law at a call, from what is held of its key.
-  call_law : (d : Deed) (later : State) (a : Answer) (e : Ending) → OpenCall (held d) s later d a → RemoveLaw d (held d) a → EndingLaw (plain ps) s a e → later.memory.power ≡ fall m.power a.steps → a.steps ≤ 87 → CallLaw (plain ps) s later d a e
+  call_law : (d : Deed) (later : State) (a : Answer) (e : Ending) → OpenCall o (held d) s later d a → RemoveLaw d (held d) a → EndingLaw (plain ps) s a e → later.memory.power ≡ fall m.power a.steps → a.steps ≤ 87 → CallLaw o (plain ps) s later d a e
   call_law d later a e law removes ends spent few = record {
     while_open = λ _. rw (reading_same (key_of d) ps) law;
     while_dark = λ w none. absurd (none-some w none);
@@ -111,8 +112,12 @@ module _ (o : WordKind) (ordered : WordOrdered o) (m : Words) (t : Tree) (settle
       (λ room. room_no_power (sym room.0 ∙ is))
       good
 
-  refused_law : (d : Deed) (e : Refusal) → Holds o m.live t d (refuse e) → OpenCall (held d) s s d (record { result = Err e; steps = 0 })
-  refused_law d e good = record {
+  -- A refusal for room, of a call that goes, comes of a full leaf.
+  abbrev Full : Deed → Plan → Type 0
+  Full d p = p ≡ refuse NoRoom → Goes d (held d) → 16 < count_of m.live (site o t (key_of d)).leaf + elements_of (call_of d)
+
+  refused_law : (d : Deed) (e : Refusal) → Holds o m.live t d (refuse e) → Full d (refuse e) → OpenCall o (held d) s s d (record { result = Err e; steps = 0 })
+  refused_law d e good full = record {
     grants = λ had is. err_ok refl is;
     declines = λ f unroom unpowered. (
       λ is.
@@ -130,7 +135,7 @@ module _ (o : WordKind) (ordered : WordOrdered o) (m : Words) (t : Tree) (settle
     room = λ is.
         ⊎_elim
         (λ own. absurd (declined_no_room d (held d) (subst (Declines d (held d)) (same_err e NoRoom is) own)))
-        (λ room. (room.1, room.2))
+        (λ room. record { may = room.1; full = full (ap refuse room.0) room.3; few = room.2 })
         good;
     power = λ is. absurd (refused_powered d e good (same_err e NoPower is));
     leaves = λ f is unpowered. (refl, refl);
@@ -140,7 +145,7 @@ module _ (o : WordKind) (ordered : WordOrdered o) (m : Words) (t : Tree) (settle
         (λ own. held_not_declined d (held d) e brings own)
         (λ room. goes_not_held d (held d) room.3 brings)
         good);
-    goes = λ undeclined room enough. absurd (⊎_elim (λ own. undeclined e own) (λ few. room few.2) good);
+    goes = λ undeclined room enough. absurd (⊎_elim (λ own. undeclined e own) (λ few. room (record { may = few.1; full = full (ap refuse few.0) few.3; few = few.2 })) good);
   }
 
   refused_removes : (d : Deed) (e : Refusal) → Holds o m.live t d (refuse e) → (a : Answer) → RemoveLaw d (held d) a
@@ -149,7 +154,7 @@ module _ (o : WordKind) (ordered : WordOrdered o) (m : Words) (t : Tree) (settle
   refused_removes (Remove w) e good a = λ r is. absurd (⊎_elim (λ own. none-some r (sym own.1 ∙ is)) (λ room. both_ways _ refl room.1) good)
 
   -- A call that is granted.
-  granted_law : (d : Deed) (later : State) (n : ℕ) → ((e : Refusal) → Declines d (held d) e → ⊥) → (BringsHeld d (held d) → (n ≡ 0) × (later ≡ s)) → OpenCall (held d) s later d (record { result = Ok (held d); steps = n })
+  granted_law : (d : Deed) (later : State) (n : ℕ) → ((e : Refusal) → Declines d (held d) e → ⊥) → (BringsHeld d (held d) → (n ≡ 0) × (later ≡ s)) → OpenCall o (held d) s later d (record { result = Ok (held d); steps = n })
   granted_law d later n own idle = record {
     grants = λ had is. same_ok had (held d) (sym is);
     declines = λ e unroom unpowered. (λ is. err_ok is refl, λ h. absurd (own e h));
@@ -166,7 +171,7 @@ module _ (o : WordKind) (ordered : WordOrdered o) (m : Words) (t : Tree) (settle
   granted_removes (Remove w) n = λ r is. inl (ap Ok is)
 
   -- A call that power broke off.
-  broken_law : (d : Deed) (later : State) (n : ℕ) → Goes d (held d) → m.power ≡ left n → n < 87 → OpenCall (held d) s later d (record { result = Err NoPower; steps = n })
+  broken_law : (d : Deed) (later : State) (n : ℕ) → Goes d (held d) → m.power ≡ left n → n < 87 → OpenCall o (held d) s later d (record { result = Err NoPower; steps = n })
   broken_law d later n goes all few = record {
     grants = λ had is. err_ok refl is;
     declines = λ e unroom unpowered. (λ is. absurd (unpowered (sym (same_err NoPower e is))), λ own. absurd (goes_not_declined d (held d) e goes own));
@@ -211,13 +216,13 @@ module _ (o : WordKind) (ordered : WordOrdered o) (m : Words) (t : Tree) (settle
       ))
       (ends m (change before commit) settled turns.proper)
 
-  pub call_step : (d : Deed) (p : Plan) → Holds o m.live t d p → CallStep o (plain ps) s d (by_plan m t (held d) p)
-  call_step d (refuse e) good = (
-    call_law d s (record { result = Err e; steps = 0 }) neither (refused_law d e good) (refused_removes d e good (record { result = Err e; steps = 0 })) (e, refl, λ none. refused_powered d e good) (sym (fall_none m.power)) (omega arith),
+  pub call_step : (d : Deed) (p : Plan) → Holds o m.live t d p → Full d p → CallStep o (plain ps) s d (by_plan m t (held d) p)
+  call_step d (refuse e) good full = (
+    call_law d s (record { result = Err e; steps = 0 }) neither (refused_law d e good full) (refused_removes d e good (record { result = Err e; steps = 0 })) (e, refl, λ none. refused_powered d e good) (sym (fall_none m.power)) (omega arith),
     (settled, sound, refl),
   )
-  call_step d nothing good = (
+  call_step d nothing good full = (
     call_law d s (record { result = Ok (held d); steps = 0 }) finished (granted_law d s 0 (λ e own. held_not_declined d (held d) e good own) (λ brings. (refl, refl))) (granted_removes d 0) (held d, refl) (sym (fall_none m.power)) (omega arith),
     (settled, sound, sym (done_held o ordered d ps ascends good)),
   )
-  call_step d (writes before commit new) good = write_step d before commit new good
+  call_step d (writes before commit new) good full = write_step d before commit new good

@@ -1,9 +1,13 @@
 //! Histories: calls, questions and cuts one after the other, and the plain book that says what they must come to. The law of cuts.
 #![tactic(auto)]
 
+ghost use Rattle.keys.specs.InWords.{in_words};
+ghost use Rattle.plans.specs.Told.{by_rule};
 ghost use Rattle.histories.specs.Example.{Example};
 ghost use Rattle.histories.specs.Histories.{EveryList};
-ghost use Rattle.histories.specs.Law.{LawByRule, LawOfCuts, LawOfLists, LawfulFrom};
+ghost use Rattle.histories.specs.Law.{LawByRule, LawFor, LawOfCuts, LawOfLists, LawfulFrom};
+
+use keys::Key;
 
 // After any calls, questions and cuts the book is what the finished calls come to, with the unfinished one where its commit word stands
 // new; and each call and question on the way is answered as this plain book has it.
@@ -12,6 +16,11 @@ pub fn law_of_cuts()
     ensures law { LawOfCuts }
     ensures rule { LawByRule }
     ensures lists { LawOfLists }
+{}
+
+// The same for the kinds of key that code has, by the rule.
+pub fn law_of_kind<K: Key>()
+    ensures { LawFor by_rule (in_words K.Key.kind) }
 {}
 
 // Every list of calls, questions and cuts has a history.
