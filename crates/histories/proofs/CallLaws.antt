@@ -24,7 +24,9 @@ use Rattle.plans.specs.Plan.{Tree, site, Plan, refuse, nothing, writes}
 use Rattle.plans.specs.Laws.{Sound, Holds}
 use Rattle.histories.specs.PlainBook.{done, Ending, finished, unfinished, neither, Waiting, PlainBook, plain, after_call}
 use Rattle.histories.specs.Outcome.{Logbook, blank, in_use, dark, State, Answer, Outcome, wrote, by_plan}
-use Rattle.histories.specs.Law.{elements_of, RemoveLaw, OpenCall, EndingLaw, CallLaw, Stands}
+use Rattle.histories.specs.Answering.{elements_of, RemoveLaw, OpenCall, EndingLaw, CallLaw}
+use Rattle.histories.specs.Law.{Stands}
+use Rattle.histories.proofs.CommitLaws.{Placed, WellPlaced}
 use Rattle.histories.proofs.DeedLaws.{declines_one, goes_not_declined, held_not_declined, goes_not_held, room_no_power, declined_no_room, declined_no_power}
 use Rattle.histories.proofs.PlainLaws.{reading_same, done_same, done_other, done_held}
 use Rattle.histories.proofs.RunLaws.{Granted, Refused, ends}
@@ -95,7 +97,7 @@ module _ (o : WordKind) (ordered : WordOrdered o) (m : Words) (t : Tree) (settle
   ascends = subst (λ ks. Ascending o (all_pairs o m.live ks)) (sym (linked_is o ordered m.live t.leaves sound.opens)) (book_ascends o ordered m.live t.leaves sound.opens)
 
   -- The law at a call, from what is held of its key.
-  call_law : (d : Deed) (later : State) (a : Answer) (e : Ending) → OpenCall o (held d) s later d a → RemoveLaw d (held d) a → EndingLaw (plain ps) s a e → later.memory.power ≡ fall m.power a.steps → a.steps ≤ 87 → CallLaw o (plain ps) s later d a e
+  call_law : (d : Deed) (later : State) (a : Answer) (e : Ending) → OpenCall o (held d) s later d a → RemoveLaw d (held d) a → EndingLaw o (plain ps) s d a e → later.memory.power ≡ fall m.power a.steps → a.steps ≤ 87 → CallLaw o (plain ps) s later d a e
   call_law d later a e law removes ends spent few = record {
     while_open = λ _. rw (reading_same (key_of d) ps) law;
     while_dark = λ w none. absurd (none-some w none);
@@ -183,9 +185,9 @@ module _ (o : WordKind) (ordered : WordOrdered o) (m : Words) (t : Tree) (settle
   }
 
   -- What a call writes, granted or broken off.
-  write_step : (d : Deed) (before : List LineWrite) (commit : Store) (new : Tree) → Holds o m.live t d (writes before commit new) →
+  write_step : (d : Deed) (before : List LineWrite) (commit : Store) (new : Tree) → Holds o m.live t d (writes before commit new) → Placed m.live (site o t (key_of d)) d commit →
       CallStep o (plain ps) s d (wrote (perform m (change before commit)).ended (perform m (change before commit)) commit new (held d))
-  write_step d before commit new (goes, good) =
+  write_step d before commit new (goes, good) placed =
       let r = perform m (change before commit) in
       let does = done_same o ordered d ps goes in
       let turns : Turns o m.live before commit new.leaves (done o d ps) = subst (Turns o m.live before commit new.leaves) (sym does) good.turns in
@@ -201,7 +203,7 @@ module _ (o : WordKind) (ordered : WordOrdered o) (m : Words) (t : Tree) (settle
       subst (λ a. CallStep o (plain ps) s d (wrote a r commit new (held d))) (sym b.ended) (
         call_law d (record { memory = r.after; logbook = dark }) (record { result = Err NoPower; steps = r.steps }) (unfinished commit)
             (broken_law d (record { memory = r.after; logbook = dark }) r.steps goes b.all (omega (arith, b.few, good.few)))
-            (unpowered_removes d (held d) r.steps) (refl, refl, turns.differs) b.spent (omega (arith, b.few, good.few)),
+            (unpowered_removes d (held d) r.steps) (refl, refl, record { place = placed; differs = turns.differs }) b.spent (omega (arith, b.few, good.few)),
         record {
           old = m;
           before = before;
@@ -216,13 +218,13 @@ module _ (o : WordKind) (ordered : WordOrdered o) (m : Words) (t : Tree) (settle
       ))
       (ends m (change before commit) settled turns.proper)
 
-  pub call_step : (d : Deed) (p : Plan) → Holds o m.live t d p → Full d p → CallStep o (plain ps) s d (by_plan m t (held d) p)
-  call_step d (refuse e) good full = (
+  pub call_step : (d : Deed) (p : Plan) → Holds o m.live t d p → Full d p → WellPlaced m.live (site o t (key_of d)) d p → CallStep o (plain ps) s d (by_plan m t (held d) p)
+  call_step d (refuse e) good full placed = (
     call_law d s (record { result = Err e; steps = 0 }) neither (refused_law d e good full) (refused_removes d e good (record { result = Err e; steps = 0 })) (e, refl, λ none. refused_powered d e good) (sym (fall_none m.power)) (omega arith),
     (settled, sound, refl),
   )
-  call_step d nothing good full = (
+  call_step d nothing good full placed = (
     call_law d s (record { result = Ok (held d); steps = 0 }) finished (granted_law d s 0 (λ e own. held_not_declined d (held d) e good own) (λ brings. (refl, refl))) (granted_removes d 0) (held d, refl) (sym (fall_none m.power)) (omega arith),
     (settled, sound, sym (done_held o ordered d ps ascends good)),
   )
-  call_step d (writes before commit new) good full = write_step d before commit new good
+  call_step d (writes before commit new) good full placed = write_step d before commit new good placed

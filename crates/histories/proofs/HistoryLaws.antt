@@ -23,6 +23,7 @@ use Rattle.histories.specs.Outcome.{Logbook, blank, in_use, dark, State, found, 
 use Rattle.histories.specs.Histories.{Event, called, asked, cut, Happens, after, History}
 use Rattle.histories.specs.Law.{EventLaw, fed, HistoryLaw, LawfulFrom}
 use Rattle.histories.proofs.PlainLaws.{tells_same}
+use Rattle.histories.proofs.CommitLaws.{plan_placed}
 use Rattle.histories.proofs.RoomLaws.{full_leaf}
 use Rattle.histories.proofs.CallLaws.{Broken, Kept, kept_stands, CallStep, unpowered_removes, call_step}
 
@@ -94,7 +95,7 @@ module _ (choose : Choice) (lawful : Lawful choose) (o : WordKind) (ordered : Wo
   step m dark ps None e kept h = absurd kept
   step m (in_use t) ps None (called d a e) (settled, sound, is) (valid, answered, ended) =
       subst (λ qs. Step (record { memory = m; logbook = in_use t }) (called d a e) (fed_with qs None)) is
-      (rw (answered, ended) (call_step o ordered m t settled sound d (plan_by choose o m.live t d) (plans_hold choose lawful o ordered m.live t d sound valid) (λ is goes. full_leaf choose o ordered m.live t sound d goes is)))
+      (rw (answered, ended) (call_step o ordered m t settled sound d (plan_by choose o m.live t d) (plans_hold choose lawful o ordered m.live t d sound valid) (λ is goes. full_leaf choose o ordered m.live t sound d goes is) (plan_placed choose o m.live t d)))
   step m (in_use t) ps None (asked q r) (settled, sound, is) h = (
     record { while_open = λ _. h ∙ (ap (replies o q) is ∙ sym (tells_same o q ps)); while_dark = λ w none. absurd (none-some w none) },
     (settled, sound, is),

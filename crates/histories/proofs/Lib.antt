@@ -2,6 +2,7 @@ pub mod DeedLaws
 pub mod PlainLaws
 pub mod RunLaws
 pub mod RoomLaws
+pub mod CommitLaws
 pub mod CallLaws
 pub mod HistoryLaws
 pub mod ReachedLaws

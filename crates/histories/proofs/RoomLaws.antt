@@ -14,7 +14,7 @@ use Rattle.plans.specs.Told.{Choice}
 use Rattle.plans.specs.Plan.{Tree, Plan, refuse, writes, appending, site, plan_by}
 use Rattle.plans.specs.Laws.{Sound}
 use Rattle.plans.proofs.SortLaws.{appends_with_room_hold}
-use Rattle.histories.specs.Law.{elements_of}
+use Rattle.histories.specs.Answering.{elements_of}
 
 abbrev is_written : Plan → Bool
 is_written (writes before commit after) = true
