@@ -2,3 +2,9 @@ pub mod LocatedLaws
 pub mod OpenLaws
 pub mod WalkLaws
 pub mod FormatLaws
+pub mod TurnLaws
+pub mod CarryLaws
+pub mod RewriteLaws
+pub mod RegroupLaws
+pub mod KeptLaws
+pub mod EndingLaws
