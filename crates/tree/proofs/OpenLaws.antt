@@ -42,7 +42,7 @@ pub length_tops : (o : WordKind) (m ks : List ℕ) → length ks ≡ length (top
 length_tops o m [] = refl
 length_tops o m (k ∷ ks) = ap suc (length_tops o m ks)
 
-front_tops : (o : WordKind) (m ks : List ℕ) → front (tops o m ks) ≡ bounds_of o m ks
+pub front_tops : (o : WordKind) (m ks : List ℕ) → front (tops o m ks) ≡ bounds_of o m ks
 front_tops o m [] = refl
 front_tops o m (k ∷ []) = refl
 front_tops o m (k ∷ l ∷ ks) = ap (λ bs. value (greatest o m k (count_of m k)) ∷ bs) (front_tops o m (l ∷ ks))
@@ -151,7 +151,7 @@ pub shape_made : (made : Option Index) (r : State) (gs : List (List Entry)) → 
 shape_made None r gs e is = let z : ◌≡◌ {A = ℕ} 0 1 = cc in absurd (omega arith)
 shape_made (Some x) r gs e is = rw is (let f : grouped x ≡ gs = cc in ap groups f)
 
-concat_singles : (es : List Entry) → concat (singles es) ≡ es
+pub concat_singles : (es : List Entry) → concat (singles es) ≡ es
 concat_singles [] = refl
 concat_singles (e ∷ es) = ap (λ xs. e ∷ xs) (concat_singles es)
 

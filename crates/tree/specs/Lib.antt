@@ -6,3 +6,4 @@ pub mod Formatting
 pub mod Halting
 pub mod Turning
 pub mod Calls
+pub mod Cutting

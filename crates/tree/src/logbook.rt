@@ -4,6 +4,7 @@ use std::marker::PhantomData;
 
 pub mod adopt;
 pub mod carry;
+pub mod cut;
 pub mod find;
 pub mod format;
 pub mod make;
