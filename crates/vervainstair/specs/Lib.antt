@@ -1,3 +1,4 @@
+pub mod Answering
 pub mod Forms
 pub mod Making
 pub mod Piles

@@ -1,4 +1,8 @@
 // What a line is answered.
+ghost use Rattle.std.specs.Prelude.{◌≡◌};
+ghost use Rattle.leaves.specs.Opening.{plain};
+ghost use Rattle.vervainstair.specs.declared.console.answer.Trouble.TheVariants.{Refused, Wrong as IsWrong};
+
 use crate::script::wrong::Wrong;
 use index::record::{Holds, NodeRecord};
 use leaves::leaf::Pair;
@@ -33,18 +37,24 @@ pub enum Trouble {
 }
 
 impl From<Fault> for Trouble {
+    ghost from_gives = { λ fault t. t ≡ Refused fault };
+
     fn from(fault: Fault) -> Self {
         Trouble::Refused(fault)
     }
 }
 
 impl From<Refusal> for Trouble {
+    ghost from_gives = { λ refusal t. t ≡ Refused (plain refusal) };
+
     fn from(refusal: Refusal) -> Self {
         Trouble::Refused(refusal.into())
     }
 }
 
 impl From<Wrong> for Trouble {
+    ghost from_gives = { λ wrong t. t ≡ IsWrong wrong };
+
     fn from(wrong: Wrong) -> Self {
         Trouble::Wrong(wrong)
     }

@@ -1,4 +1,12 @@
 // The logbook that a script calls, for the kind of key that it has named.
+ghost use Rattle.std.specs.Prelude.{◌≡◌, Result};
+ghost use Rattle.keys.specs.InWords.{in_words};
+ghost use Rattle.tree.specs.Shape.{shape_of};
+ghost use Rattle.tree.specs.Sound.{Sound};
+ghost use Rattle.vervainstair.specs.Answering.{Answers, called_shape, port_written, stamp_written, words_after};
+ghost use Rattle.vervainstair.specs.declared.console.answer.Trouble.{Trouble};
+ghost use Rattle.vervainstair.specs.declared.script.line.Fields.{Fields};
+
 use super::answer::{Standing, Told, Trouble};
 use crate::pile::{Pile, bottom, bottom_mut};
 use crate::script::line::{Call, Fields, Kind};
@@ -21,10 +29,16 @@ pub enum Book<B> {
 
 // A kind of key that a script can write.
 trait Written: Key {
-    fn written(fields: Fields) -> Result<Self, Trouble>;
+    ghost reads: { Fields → Result Self Trouble };
+
+    // The key that fields write, or the trouble with them.
+    fn written(fields: Fields) -> Result<Self, Trouble>
+        ensures { result ≡ reads fields };
 }
 
 impl Written for Stamp {
+    ghost reads = { stamp_written };
+
     fn written(fields: Fields) -> Result<Stamp, Trouble> {
         match fields {
             Fields::Stamp { year, day, ms } => Ok(Stamp::new(year, day, ms)?),
@@ -34,6 +48,8 @@ impl Written for Stamp {
 }
 
 impl Written for Port {
+    ghost reads = { port_written };
+
     fn written(fields: Fields) -> Result<Port, Trouble> {
         match fields {
             Fields::Port { identity, number } => Ok(Port::new(identity, number)?),
@@ -43,7 +59,12 @@ impl Written for Port {
 }
 
 // The answer of a logbook to one call.
-fn ask<K: Written, M: Memory>(book: &mut Logbook<K, M>, call: Call) -> Result<Told, Trouble> {
+fn ask<K: Written, M: Memory>(book: &mut Logbook<K, M>, call: Call) -> Result<Told, Trouble>
+    ensures answer { Sound (in_words K.Key.kind) (M.Memory.meaning book.old.memory).live book.old.state → Answers K.Key.kind K.Written.reads (M.Memory.meaning book.old.memory) book.old.state result call }
+    ensures words { M.Memory.meaning book.new.memory ≡ words_after (in_words K.Key.kind) (M.Memory.meaning book.old.memory) book.old.state call }
+    ensures state { shape_of book.new.state ≡ called_shape (in_words K.Key.kind) (M.Memory.meaning book.old.memory) book.old.state call }
+    ensures sound { Sound (in_words K.Key.kind) (M.Memory.meaning book.old.memory).live book.old.state → Sound (in_words K.Key.kind) (M.Memory.meaning book.new.memory).live book.new.state }
+{
     match call {
         Call::Format { leaves } => {
             book.format(leaves as usize)?;
