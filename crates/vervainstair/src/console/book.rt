@@ -4,6 +4,7 @@ ghost use Rattle.keys.specs.InWords.{in_words};
 ghost use Rattle.tree.specs.Shape.{shape_of};
 ghost use Rattle.tree.specs.Sound.{Sound};
 ghost use Rattle.vervainstair.specs.Answering.{Answers, called_shape, port_written, stamp_written, words_after};
+ghost use Rattle.vervainstair.specs.Books.{BookAnswers, IsNew, IsSound, kind_of, pile_of};
 ghost use Rattle.vervainstair.specs.declared.console.answer.Trouble.{Trouble};
 ghost use Rattle.vervainstair.specs.declared.script.line.Fields.{Fields};
 
@@ -92,7 +93,11 @@ fn ask<K: Written, M: Memory>(book: &mut Logbook<K, M>, call: Call) -> Result<To
 
 impl<B: Probe> Book<B> {
     // A new logbook over a pile, blank.
-    pub fn new(pile: Pile<B>, kind: Option<Kind>) -> Self {
+    pub fn new(pile: Pile<B>, kind: Option<Kind>) -> Self
+        ensures pile { pile_of result ≡ pile }
+        ensures kind { kind_of result ≡ kind }
+        ensures blank { IsNew result }
+    {
         match kind {
             None => Book::Unkind(pile),
             Some(Kind::Stamp) => Book::Stamps(Logbook::new(pile)),
@@ -100,7 +105,10 @@ impl<B: Probe> Book<B> {
         }
     }
 
-    pub fn release(self) -> Pile<B> {
+    // The pile without its logbook.
+    pub fn release(self) -> Pile<B>
+        ensures { result ≡ pile_of self }
+    {
         match self {
             Book::Unkind(pile) => pile,
             Book::Stamps(book) => book.release(),
@@ -108,7 +116,10 @@ impl<B: Probe> Book<B> {
         }
     }
 
-    pub fn bottom(&self) -> &B {
+    // The make at the bottom.
+    pub fn bottom(&self) -> &B
+        ensures { result.now ≡ (pile_of self.now).below.below.below }
+    {
         match self {
             Book::Unkind(pile) => bottom(pile),
             Book::Stamps(book) => bottom(book.memory()),
@@ -116,7 +127,9 @@ impl<B: Probe> Book<B> {
         }
     }
 
-    pub fn bottom_mut(&mut self) -> &mut B {
+    pub fn bottom_mut(&mut self) -> &mut B
+        ensures { result.now ≡ (pile_of self.old).below.below.below }
+    {
         match self {
             Book::Unkind(pile) => bottom_mut(pile),
             Book::Stamps(book) => bottom_mut(book.memory_mut()),
@@ -124,7 +137,12 @@ impl<B: Probe> Book<B> {
         }
     }
 
-    pub fn ask(&mut self, call: Call) -> Result<Told, Trouble> {
+    // The answer to one call.
+    pub fn ask(&mut self, call: Call) -> Result<Told, Trouble>
+        ensures answer { IsSound B.Memory.meaning self.old → BookAnswers B.Memory.meaning self.old result call }
+        ensures kind { kind_of self.new ≡ kind_of self.old }
+        ensures sound { IsSound B.Memory.meaning self.old → IsSound B.Memory.meaning self.new }
+    {
         match self {
             Book::Unkind(_) => Err(Wrong::NoKind.into()),
             Book::Stamps(book) => ask(book, call),
