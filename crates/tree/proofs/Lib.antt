@@ -4,3 +4,4 @@ pub mod WalkLaws
 pub mod FormatLaws
 pub mod TurnLaws
 pub mod CarryLaws
+pub mod RewriteLaws

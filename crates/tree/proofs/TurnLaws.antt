@@ -37,7 +37,7 @@ use Rattle.tree.specs.Turning.{Ending, Working, by_plan, call_ending, ending, nu
 use Rattle.tree.specs.Walk.{HomeIn, leaf_of, number_of}
 use Rattle.tree.proofs.LocatedLaws.{Located, located_in, never_ok, number_at, search_is}
 
-same_some : (a b : ℕ) → ◌≡◌ {A = Option ℕ} (Some a) (Some b) → a ≡ b
+pub same_some : (a b : ℕ) → ◌≡◌ {A = Option ℕ} (Some a) (Some b) → a ≡ b
 same_some a b e = cc
 
 pub same_elements : (v : FixedVec Element 16) (es : List Element) → elements_told (Ok v) ≡ Ok es → items v ≡ es
@@ -46,7 +46,7 @@ same_elements v es e = cc
 counted_within : (m : List ℕ) (k n : ℕ) → count_answer m k ≡ Ok n → Within m k
 counted_within m k n e = (grind (arith, nat_tests), grind (arith, nat_tests), grind (arith, nat_tests))
 
-leaf_there : (gs : List (List Entry)) (p : Place) → within gs p ≡ true → leaf_of gs (Some p) ≡ Some (get_or (concat gs) (position gs p) (entry 0 (0, 0))).to
+pub leaf_there : (gs : List (List Entry)) (p : Place) → within gs p ≡ true → leaf_of gs (Some p) ≡ Some (get_or (concat gs) (position gs p) (entry 0 (0, 0))).to
 leaf_there gs p t = ap number_of (cond-true (within gs p) (Some (get_or (concat gs) (position gs p) (entry 0 (0, 0)))) None t)
 
 -- A call at work: its key's leaf, by its number.

@@ -10,6 +10,7 @@ use Rattle.memory.specs.Meaning.{Words}
 use Rattle.writes.specs.Writes.{Answer, Run, outcome, perform}
 use Rattle.writes.specs.Laws.{change}
 use Rattle.leaves.specs.declared.leaf.Pair.{Pair}
+use Rattle.leaves.specs.Asking.{count_answer}
 use Rattle.leaves.specs.Layout.{leaf_at, word}
 use Rattle.books.specs.Bounds.{locate}
 use Rattle.plans.specs.declared.deed.Deed.{Deed}
@@ -17,18 +18,19 @@ use Rattle.plans.specs.declared.deed.Call.{Call}
 use Rattle.plans.specs.declared.decision.Decision.{Decision}
 use Rattle.plans.specs.Deeds.{key_of}
 use Rattle.plans.specs.Told.{by_rule}
-use Rattle.plans.specs.Plan.{Plan, Tree, Wish, declined, elements, granted, next_leaf, nothing, pairs_of, plan, refuse, rewritten, site, writes}
+use Rattle.plans.specs.Plan.{Plan, Tree, Wish, declined, elements, granted, next_leaf, nothing, pairs_of, plan, refuse, rewritten, site, taken, writes}
 use Rattle.index.specs.declared.node.Entry.{Entry}
 use Rattle.index.specs.declared.table.Index.{Index}
 use Rattle.index.specs.declared.table.Place.{Place}
 use Rattle.index.specs.Meaning.{grouped, listed, merged, merges, replaced, split, splits}
 use Rattle.index.specs.Nodes.{bounds, numbers}
-use Rattle.index.specs.Places.{place_at, within}
+use Rattle.index.specs.Places.{place_at, place_before, within}
 use Rattle.index.specs.Search.{concat, front}
 use Rattle.tree.specs.declared.logbook.carry.Halt.{Halt}
 use Rattle.tree.specs.declared.logbook.place.Home.{Home}
 use Rattle.tree.specs.declared.logbook.adopt.Regroup.{Regroup}
 use Rattle.tree.specs.declared.logbook.adopt.Regroup.TheVariants.{Split, Merge, Replace}
+use Rattle.tree.specs.declared.logbook.rewrite.New.{New}
 use Rattle.tree.specs.declared.logbook.turn.Done.{Done}
 use Rattle.tree.specs.declared.logbook.turn.Removed.{Removed}
 use Rattle.tree.specs.declared.logbook.State.{State}
@@ -36,7 +38,7 @@ use Rattle.tree.specs.declared.logbook.State.TheVariants.{Blank, Open, Dark}
 use Rattle.tree.specs.Halting.{halted}
 use Rattle.tree.specs.Shape.{Shape, blank, dark, groups}
 use Rattle.tree.specs.Sound.{Fits}
-use Rattle.tree.specs.Walk.{HomeIn}
+use Rattle.tree.specs.Walk.{HomeIn, leaf_of}
 
 -- An open logbook as plans speak of it: its leaves, the bounds between them, and the leaf taken last.
 abbrev pub tree_of : Index → Option ℕ → Tree
@@ -140,3 +142,19 @@ Links (Some k) at = k ≤ 64 → at ≡ leaf_at k
 abbrev pub MergesWith : WordKind → List ℕ → Option ℕ → ℕ → Type 0
 MergesWith o m None n = ⊥
 MergesWith o m (Some k) n = n + length (pairs_of o m k) ≤ 16
+
+-- A new leaf is taken in the place of one: how many leaves there are and are linked, the free one that comes next, and the word that will link it.
+pub record Taking (m : List ℕ) (x : Index) (last : Option ℕ) (p : Place) (new : New) : Type 0 where
+  pub leaves : new.leaves ≡ word m 3
+  pub linked : new.linked ≡ length (numbers (listed x))
+  pub leaf : new.leaf ≡ taken (word m 3) (numbers (listed x)) last
+  pub at : Links (leaf_of (grouped x) (place_before (grouped x) p)) new.at
+
+-- The count of the next leaf, if there is one.
+abbrev pub some_of : Result ℕ Refusal → Result (Option ℕ) Refusal
+some_of (Ok n) = Ok (Some n)
+some_of (Err e) = Err e
+
+abbrev pub count_next : List ℕ → Option ℕ → Result (Option ℕ) Refusal
+count_next m None = Ok None
+count_next m (Some k) = some_of (count_answer m k)
