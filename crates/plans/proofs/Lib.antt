@@ -1,6 +1,9 @@
 pub mod FreeLaws
-pub mod Lengths
-pub mod PlanLaws
 pub mod DecisionLaws
+pub mod Lengths
 pub mod CallLaws
+pub mod SiteLaws
+pub mod PlanLaws
+pub mod RisingLaws
 pub mod SortLaws
+pub mod ExampleLaws

@@ -1,5 +1,5 @@
 -- The plan of every call on a sound tree holds, for every lawful choice.
-use Rattle.std.proofs.Common.{◌≡◌, ℕ, ◌+◌, ◌-◌, ◌<◌, ◌≤◌, true, false, ◌==◌, ◌≢◌, List, [], ◌∷◌, ◌++◌, length, take, drop, Some, None, Ok, Option, sym, refl, ap, ◌∙◌, subst, inl, inr, ⊎_elim, append-nil, take-append-drop, ltb, leb, length-append, length-take, length-drop, arith}
+use Rattle.std.proofs.Common.{◌≡◌, ℕ, ◌+◌, ◌-◌, ◌<◌, ◌≤◌, true, false, ◌==◌, ◌≢◌, List, [], ◌∷◌, ◌++◌, length, take, drop, Some, None, Option, sym, refl, ap, ◌∙◌, subst, inl, inr, ⊎_elim, append-nil, take-append-drop, ltb, leb, length-append, length-take, length-drop, arith}
 use Rattle.std.proofs.lemmas.Bool.{both_ways, cond_both, eqb-true, eqb-false, leb-true, leb-false, ltb-true, ltb-false, or_parts, or_from}
 use Rattle.std.proofs.lemmas.Option.{none-some}
 use Rattle.refusal.specs.declared.Refusal.TheVariants.{NoRoom}
@@ -16,7 +16,6 @@ use Rattle.books.specs.Opens.{Fine, Opens, lone}
 use Rattle.books.specs.Bounds.{Bounded, locate}
 use Rattle.books.specs.Questions.{Belongs}
 use Rattle.books.proofs.OpensLaws.{opens_from, unlike}
-use Rattle.books.proofs.BoundLaws.{locates_hold}
 use Rattle.books.proofs.QuestionLaws.{finds_hold}
 use Rattle.turns.specs.Turns.{Turns}
 use Rattle.appends.specs.Append.{Appendable, slot_lines, raised, all_applied}
@@ -37,15 +36,12 @@ use Rattle.plans.specs.declared.decision.Decision.{Decision}
 use Rattle.plans.specs.declared.decision.Decision.TheVariants.{Split, Merge, Replace}
 use Rattle.plans.specs.Deeds.{key_of, call_of, done, Goes}
 use Rattle.plans.specs.Told.{Told, Choice, most_pairs, Counted, Mergeable, LawfulFor, Lawful}
-use Rattle.plans.specs.Plan.{Tree, Site, site_at, pairs_of, granted, elements, wish, taken, fillings, Plan, refuse, nothing, writes, rewriting, rewritten, next_leaf, written, carried, plan_at, plan_by}
+use Rattle.plans.specs.Plan.{Tree, Site, site, pairs_of, granted, elements, wish, taken, fillings, Plan, refuse, nothing, writes, appending, rewriting, rewritten, next_leaf, written, carried, plan_at, plan_by}
 use Rattle.plans.specs.Laws.{Holds, PlansHold, RemovesGo, CommitsChange}
 use Rattle.plans.proofs.DecisionLaws.{most_seventeen}
 use Rattle.plans.proofs.FreeLaws.{taken_free}
+use Rattle.plans.proofs.SiteLaws.{place_of, belongs_at, site_place}
 use Rattle.plans.proofs.Lengths.{pairs_most, length_changed}
-
-pub site_is : (pre : List ℕ) (k : ℕ) (post : List ℕ) → site_at (length pre) (pre ++ k ∷ post) ≡ record { before = pre; leaf = k; after = post }
-site_is [] k post = refl
-site_is (j ∷ pre) k post = ap (λ (s : Site). record { before = j ∷ s.before; leaf = s.leaf; after = s.after }) (site_is pre k post)
 
 -- What is asked of a call's elements at its leaf.
 record Ready (o : WordKind) (m pre : List ℕ) (k : ℕ) (post : List ℕ) (d : Deed) (xs : List (ℕ × ℕ)) : Type 0 where
@@ -191,7 +187,7 @@ module _ (o : WordKind) (ordered : WordOrdered o) (m pre : List ℕ) (k : ℕ) (
     written_holds xs ready =
         let now = all_applied o w xs (pairs_of o m k) in
         let told : Told = record { call = call_of d; pairs = length now; next = next_leaf o m post; free = word m 3 - length row } in
-        cond_both (leb (count_of m k + length xs) 16) (writes (slot_lines k (count_of m k) w xs) (raised k (count_of m k) xs) t) (rewritten o m t s now (choose told)) (Holds o m t d)
+        cond_both (leb (count_of m k + length xs) 16) (appending m t k w xs) (rewritten o m t s now (choose told)) (Holds o m t d)
         (λ yes.
         let fits = ready.fits (leb-true (count_of m k + length xs) 16 yes) in
         let turn = subst (λ ps. Turns o m (slot_lines k (count_of m k) w xs) (raised k (count_of m k) xs) row ps) ready.does (appends_hold o ordered m pre k post w xs fits) in (
@@ -285,13 +281,11 @@ module _ (choose : Choice) (lawful : Lawful choose) (o : WordKind) (ordered : Wo
 pub plans_hold : PlansHold
 plans_hold choose lawful o ordered m t d sound valid =
     let w = key_of d in
-    let p = locates_hold o ordered m t.leaves t.bounds w sound.bounded in
-    let row = p.pre ++ p.leaf ∷ p.post in
-    let b : Belongs o m p.pre p.leaf p.post w = record { opens = sound.opens ∙ ap Ok p.leaves; above = p.above; below = p.below } in
+    let p = place_of o ordered m t w sound in
+    let b = belongs_at o ordered m t w sound in
     let main = carried_holds choose lawful o ordered m p.pre p.leaf p.post t.bounds t.last (subst (λ ks. Bounded o m ks t.bounds) p.leaves sound.bounded) d b valid p.place (lookup w (pairs_of o m p.leaf)) refl in
-    subst (λ ks. Holds o m (record { leaves = ks; bounds = t.bounds; last = t.last }) d (plan_at choose o m (record { leaves = ks; bounds = t.bounds; last = t.last }) (site_at (locate o w t.bounds) ks) d)) (sym p.leaves)
-    (subst (λ i. Holds o m (record { leaves = row; bounds = t.bounds; last = t.last }) d (plan_at choose o m (record { leaves = row; bounds = t.bounds; last = t.last }) (site_at i row) d)) p.place
-    (subst (λ x. Holds o m (record { leaves = row; bounds = t.bounds; last = t.last }) d (plan_at choose o m (record { leaves = row; bounds = t.bounds; last = t.last }) x d)) (sym (site_is p.pre p.leaf p.post)) main))
+    subst (λ ks. Holds o m (record { leaves = ks; bounds = t.bounds; last = t.last }) d (plan_at choose o m (record { leaves = ks; bounds = t.bounds; last = t.last }) (site o t w) d)) (sym p.leaves)
+    (subst (λ s. Holds o m (record { leaves = p.pre ++ p.leaf ∷ p.post; bounds = t.bounds; last = t.last }) d (plan_at choose o m (record { leaves = p.pre ++ p.leaf ∷ p.post; bounds = t.bounds; last = t.last }) s d)) (sym (site_place o ordered m t w sound)) main)
 
 module _ (o : WordKind) (m : List ℕ) (t : Tree) where
   remove_writes : (w : ℕ × ℕ) (old : ℕ) → lookup w (book o m) ≡ Some old → (p : Plan) → Holds o m t (Remove w) p → (before : List LineWrite) × (commit : Store) × (after : Tree) × (p ≡ writes before commit after)

@@ -13,7 +13,7 @@ abbrev pub decision : Bool → ℕ → Option ℕ → Decision
 decision may n next = cond (may && nat_lt 8 n) (Split (n / 2)) (cond (nat_le n 8 && few next) Merge Replace)
 
 -- Of 9 to 17 pairs 4 to 8 go to the left leaf and 5 to 9 to the right one.
-pub record Halves (n : ℕ) (next : Option ℕ) : Type 0 where
+pub record HalfShares (n : ℕ) (next : Option ℕ) : Type 0 where
   pub split : decision true n next ≡ Split (n / 2)
   pub left_least : 4 ≤ n / 2
   pub left_most : n / 2 ≤ 8
@@ -21,7 +21,7 @@ pub record Halves (n : ℕ) (next : Option ℕ) : Type 0 where
   pub right_most : n - n / 2 ≤ 9
 
 abbrev pub SplitHalves : Type 0
-SplitHalves = (n : ℕ) (next : Option ℕ) → 8 < n → n ≤ 17 → Halves n next
+SplitHalves = (n : ℕ) (next : Option ℕ) → 8 < n → n ≤ 17 → HalfShares n next
 
 -- Of 17 pairs 8 go to the left leaf, so 9 to the right one.
 abbrev pub SplitOfSeventeen : Type 0

@@ -1,5 +1,6 @@
 -- What plans are worth, for every lawful choice how leaves are rewritten.
 use Rattle.std.specs.Prelude.{◌≡◌, ℕ, ◌+◌, ◌<◌, ◌≤◌, true, ◌⊎◌, List, length, Some, Ok}
+use Rattle.std.specs.List.{AllPairs}
 use Rattle.refusal.specs.declared.Refusal.TheVariants.{NoRoom}
 use Rattle.keys.specs.InWords.{WordKind, WordOrdered}
 use Rattle.leaves.specs.Layout.{word}
@@ -53,3 +54,7 @@ abbrev pub CommitsChange : Type 0
 CommitsChange =
     (choose : Choice) → Lawful choose → (o : WordKind) → WordOrdered o → (m : List ℕ) (t : Tree) (d : Deed) (before : List LineWrite) (commit : Store) (after : Tree) →
     Sound o m t → o.valid (key_of d) ≡ true → plan_by choose o m t d ≡ writes before commit after → New commit m → ⊥
+
+-- The bounds of a sound tree rise: each is before all later ones.
+abbrev pub BoundsRise : Type 0
+BoundsRise = (o : WordKind) → WordOrdered o → (m : List ℕ) (t : Tree) → Sound o m t → AllPairs (λ b c. o.before b c ≡ true) t.bounds

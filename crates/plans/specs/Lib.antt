@@ -5,3 +5,4 @@ pub mod Told
 pub mod Plan
 pub mod Laws
 pub mod Sorts
+pub mod Example

@@ -64,7 +64,7 @@ merging (Split left) = 0
 merging Merge = 1
 merging Replace = 0
 
--- The number of the free leaf that is taken next, of n leaves where these are used.
+-- The number of the free leaf that is taken next, of n leaves where these are used; 0 where none is free.
 abbrev pub taken : ℕ → List ℕ → Option ℕ → ℕ
 taken n used last = unwrap_or (free_leaf n used last) 0
 
@@ -96,6 +96,10 @@ pub data Plan : Type 0 where
   nothing : Plan
   writes : List LineWrite → Store → Tree → Plan
 
+-- Elements of key w appended to leaf k; leaves, bounds and the leaf taken last stay.
+abbrev pub appending : List ℕ → Tree → ℕ → ℕ × ℕ → List (ℕ × ℕ) → Plan
+appending m t k w xs = writes (slot_lines k (count_of m k) w xs) (raised k (count_of m k) xs) t
+
 -- New leaves in the place of a call's leaf and of so many after it.
 abbrev pub rewriting : Tree → Site → List Filling → List ℕ → List ℕ → Plan
 rewriting t s fs more rest = writes (leaves_lines fs rest) (link_commit s.before fs rest) (record {
@@ -119,7 +123,7 @@ next_leaf o m (k ∷ ks) = Some (record { pairs = length (pairs_of o m k); count
 abbrev pub written : Choice → WordKind → List ℕ → Tree → Site → Deed → List (ℕ × ℕ) → List Pair → Plan
 written choose o m t s d xs ps =
     cond (nat_le (count_of m s.leaf + length xs) 16)
-    (writes (slot_lines s.leaf (count_of m s.leaf) (key_of d) xs) (raised s.leaf (count_of m s.leaf) xs) t)
+    (appending m t s.leaf (key_of d) xs)
     (rewritten o m t s ps (choose (record { call = call_of d; pairs = length ps; next = next_leaf o m s.after; free = word m 3 - length t.leaves })))
 
 abbrev pub carried : Choice → WordKind → List ℕ → Tree → Site → Deed → Wish → Plan

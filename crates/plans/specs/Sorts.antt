@@ -1,5 +1,5 @@
 -- What the sorts of plans come to: appends where there is room, and the bounds after a split, a merge and a replacement.
-use Rattle.std.specs.Prelude.{◌≡◌, ℕ, ◌+◌, ◌≤◌, true, false, ◌≢◌, List, [], ◌∷◌, ◌++◌, take, drop, Some, None}
+use Rattle.std.specs.Prelude.{◌≡◌, ℕ, ◌+◌, ◌≤◌, false, ◌≢◌, List, [], ◌∷◌, ◌++◌, take, drop, Some, None}
 use Rattle.keys.specs.InWords.{WordKind, WordOrdered}
 use Rattle.leaves.specs.declared.leaf.Pair.{Pair}
 use Rattle.leaves.specs.Layout.{count_of}
@@ -8,13 +8,12 @@ use Rattle.leaves.specs.Ascent.{Each, Ascending}
 use Rattle.writes.specs.Writes.{cost}
 use Rattle.writes.specs.Laws.{change}
 use Rattle.books.specs.Footprint.{book}
-use Rattle.appends.specs.Append.{slot_lines, raised}
 use Rattle.appends.specs.Calls.{put_elements, change_elements, remove_elements}
 use Rattle.rewrites.specs.Rewrite.{Filling}
 use Rattle.rewrites.specs.Bounds.{bounds_after, last_key}
 use Rattle.plans.specs.declared.deed.Deed.TheVariants.{Put, Change, Remove}
 use Rattle.plans.specs.Told.{Choice}
-use Rattle.plans.specs.Plan.{Tree, Plan, refuse, nothing, writes, site, plan_by}
+use Rattle.plans.specs.Plan.{Tree, Plan, refuse, nothing, writes, site, appending, plan_by}
 use Rattle.plans.specs.Laws.{Sound}
 
 -- The steps of a plan that is granted.
@@ -22,10 +21,6 @@ abbrev pub steps_of : Plan → ℕ
 steps_of (refuse e) = 0
 steps_of nothing = 0
 steps_of (writes before commit after) = cost (change before commit)
-
--- Elements of key w appended to leaf k; leaves, bounds and the leaf taken last stay.
-abbrev pub appending : List ℕ → Tree → ℕ → ℕ × ℕ → List (ℕ × ℕ) → Plan
-appending m t k w xs = writes (slot_lines k (count_of m k) w xs) (raised k (count_of m k) xs) t
 
 -- A plan appends these elements to leaf k, in so many steps.
 abbrev pub AppendsIn : List ℕ → Tree → ℕ → ℕ × ℕ → List (ℕ × ℕ) → ℕ → Plan → Type 0
@@ -40,7 +35,7 @@ pub record Appending (choose : Choice) (o : WordKind) (m : List ℕ) (t : Tree) 
 abbrev pub AppendsWithRoom : Type 0
 AppendsWithRoom =
     (choose : Choice) (o : WordKind) → WordOrdered o → (m : List ℕ) (t : Tree) (w : ℕ × ℕ) →
-    Sound o m t → o.valid w ≡ true → Appending choose o m t w (site o t w).leaf
+    Sound o m t → Appending choose o m t w (site o t w).leaf
 
 -- The bounds after a rewrite of the leaf at a place.
 pub record NewBounds (place : ℕ) (bs : List (ℕ × ℕ)) : Type 0 where

@@ -1,6 +1,6 @@
 // The calls that change a book.
 ghost use Rattle.std.specs.Prelude.{◌≡◌};
-ghost use Rattle.plans.specs.Deeds.{call_of, may_split};
+ghost use Rattle.plans.specs.Deeds.{call_of, key_of, may_split};
 
 // A call with its key, as the key's two words, and its reading.
 #[derive(Clone, Copy, PartialEq, Eq, Debug)]
@@ -19,6 +19,14 @@ pub enum Call {
 }
 
 impl Deed {
+    pub fn key(self) -> (u64, u64)
+        ensures { result ≡ key_of self }
+    {
+        match self {
+            Deed::Put { key, .. } | Deed::Change { key, .. } | Deed::Remove { key } => key,
+        }
+    }
+
     pub fn call(self) -> Call
         ensures { result ≡ call_of self }
     {

@@ -1,8 +1,9 @@
 // The theorems of plans.
 ghost use Rattle.plans.specs.Decisions.{NeverSplit, SplitHalves, SplitOfSeventeen};
 ghost use Rattle.plans.specs.Deeds.{CallsChange, NothingChanges};
+ghost use Rattle.plans.specs.Example.{Example};
 ghost use Rattle.plans.specs.Free.{AllCandidates, AlwaysFree, TakesFree};
-ghost use Rattle.plans.specs.Laws.{CommitsChange, PlansHold, RemovesGo};
+ghost use Rattle.plans.specs.Laws.{BoundsRise, CommitsChange, PlansHold, RemovesGo};
 ghost use Rattle.plans.specs.Sorts.{AppendsWithRoom, BoundsMove, LastIsGreatest};
 ghost use Rattle.plans.specs.Told.{DecisionLawful};
 
@@ -12,10 +13,11 @@ pub fn plans_stand()
     ensures hold { PlansHold }
     ensures removes { RemovesGo }
     ensures commits { CommitsChange }
+    ensures rise { BoundsRise }
 {}
 
 // A call has something to do just where it changes the book.
-pub fn calls_stand()
+pub fn deeds_stand()
     ensures change { CallsChange }
     ensures nothing { NothingChanges }
 {}
@@ -40,4 +42,9 @@ pub fn free_leaves_stand()
     ensures takes { TakesFree }
     ensures always { AlwaysFree }
     ensures all { AllCandidates }
+{}
+
+// The worked rewrites: a split, a replacement, a merge, and a split that lacks room.
+pub fn example_stands()
+    ensures { Example }
 {}

@@ -66,7 +66,7 @@ rising o m Blank h = tt
 rising o m (Open x) h = h.ascending
 rising o m Dark h = tt
 
-located_in : (o : WordKind) → WordOrdered o → (m : List ℕ) (es : List Entry) (s : State) (w : ℕ × ℕ) (leaf : ℕ) → Fits o m es → leaf ≡ (get_or es (search o w (bounds es)) (entry 0 (0, 0))).to → Located o m s w leaf
+pub located_in : (o : WordKind) → WordOrdered o → (m : List ℕ) (es : List Entry) (s : State) (w : ℕ × ℕ) (leaf : ℕ) → Fits o m es → leaf ≡ (get_or es (search o w (bounds es)) (entry 0 (0, 0))).to → Located o m s w leaf
 located_in o ordered m es s w leaf fits is =
     let p = locates o ordered m (numbers es) (front (bounds es)) w fits.bounded in
     let opens = opens_from o m (numbers es) fits.opens in

@@ -3,3 +3,5 @@ pub mod Sound
 pub mod Telling
 pub mod Walk
 pub mod Formatting
+pub mod Halting
+pub mod Turning

@@ -2,6 +2,7 @@
 use index::table::Index;
 use std::marker::PhantomData;
 
+pub mod carry;
 pub mod find;
 pub mod format;
 pub mod make;
@@ -10,6 +11,9 @@ pub mod node;
 pub mod open;
 pub mod pairs;
 pub mod place;
+pub mod adopt;
+pub mod rewrite;
+pub mod turn;
 
 // Blank: neither formatted nor opened. Open: with the index of the linked leaves. Dark: the memory refused a step, and nothing is
 // told until it is opened anew.

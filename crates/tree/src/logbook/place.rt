@@ -1,11 +1,11 @@
 // What the index of an open logbook tells of places and leaves.
 ghost use Rattle.std.specs.Prelude.{◌≡◌, slice_index_or, Err, MatchResult};
-ghost use Rattle.index.specs.Meaning.{listed};
+ghost use Rattle.index.specs.Meaning.{grouped, listed};
 ghost use Rattle.index.specs.Nodes.{bounds, entry};
 ghost use Rattle.index.specs.Search.{Ascending, front, search};
 ghost use Rattle.keys.specs.InWords.{in_words};
 ghost use Rattle.tree.specs.Telling.{Rising, indexed, leaf_for_key};
-ghost use Rattle.tree.specs.Walk.{First, Located, stepped};
+ghost use Rattle.tree.specs.Walk.{First, Located, HomeIn, leaf_of, stepped};
 ghost use Rattle.tree.specs.declared.logbook.State.TheVariants.{Open};
 
 use super::{Logbook, State};
@@ -20,6 +20,21 @@ fn located<K: Key>(index: &Index, key: (u64, u64)) -> usize
 {
     let place = index.locate::<K>(key);
     index.entry(place).unwrap().to
+}
+
+// Where a key belongs: the place of its leaf, the leaf, and the next leaf, if there is one.
+#[derive(Clone, Copy)]
+pub(crate) struct Home {
+    pub(crate) place: Place,
+    pub(crate) leaf: usize,
+    pub(crate) next: Option<usize>,
+}
+
+// The leaf that a place holds, if there is a place.
+pub(crate) fn leaf_at(index: &Index, place: Option<Place>) -> Option<usize>
+    ensures { result ≡ leaf_of (grouped index.now) place }
+{
+    index.entry(place?).map(|entry| entry.to)
 }
 
 impl<K: Key, M: Memory> Logbook<K, M> {
@@ -48,6 +63,19 @@ impl<K: Key, M: Memory> Logbook<K, M> {
     {
         let index = self.index()?;
         Ok(index.locate::<K>(key))
+    }
+
+    // Where a key belongs; refused unless the logbook is open.
+    pub(crate) fn home(&self, key: (u64, u64)) -> Result<Home, Refusal>
+        ensures { MatchResult result (λ home. HomeIn (in_words K.Key.kind) self.now.state key home) (λ refusal. indexed self.now.state ≡ Err refusal) }
+    {
+        let index = self.index()?;
+        let place = index.locate::<K>(key);
+        Ok(Home {
+            place,
+            leaf: index.entry(place).unwrap().to,
+            next: leaf_at(index, index.after(place)),
+        })
     }
 
     // The place of the first leaf; refused unless the logbook is open.
