@@ -45,5 +45,5 @@ IsSound means (Ports book) = Sound (in_words port_kind) (pile_words means book.m
 -- A call needs a kind of key, and is answered then by the logbook.
 abbrev pub BookAnswers : {B : Type 0} → (B → Words) → Book B → Result Told Trouble → Call → Type 0
 BookAnswers means (Unkind pile) r call = r ≡ Err (IsWrong NoKind)
-BookAnswers means (Stamps book) r call = Answers stamp_kind stamp_written (pile_words means book.memory) book.state r call
-BookAnswers means (Ports book) r call = Answers port_kind port_written (pile_words means book.memory) book.state r call
+BookAnswers means (Stamps book) r call = Answers stamp_kind stamp_written (pile_words means book.memory) book.state book.taken r call
+BookAnswers means (Ports book) r call = Answers port_kind port_written (pile_words means book.memory) book.state book.taken r call

@@ -61,9 +61,9 @@ impl Written for Port {
 
 // The answer of a logbook to one call.
 fn ask<K: Written, M: Memory>(book: &mut Logbook<K, M>, call: Call) -> Result<Told, Trouble>
-    ensures answer { Sound (in_words K.Key.kind) (M.Memory.meaning book.old.memory).live book.old.state → Answers K.Key.kind K.Written.reads (M.Memory.meaning book.old.memory) book.old.state result call }
-    ensures words { M.Memory.meaning book.new.memory ≡ words_after (in_words K.Key.kind) (M.Memory.meaning book.old.memory) book.old.state call }
-    ensures state { shape_of book.new.state ≡ called_shape (in_words K.Key.kind) (M.Memory.meaning book.old.memory) book.old.state call }
+    ensures answer { Sound (in_words K.Key.kind) (M.Memory.meaning book.old.memory).live book.old.state → Answers K.Key.kind K.Written.reads (M.Memory.meaning book.old.memory) book.old.state book.old.taken result call }
+    ensures words { Sound (in_words K.Key.kind) (M.Memory.meaning book.old.memory).live book.old.state → M.Memory.meaning book.new.memory ≡ words_after K.Key.kind K.Written.reads (M.Memory.meaning book.old.memory) book.old.state book.old.taken call }
+    ensures state { Sound (in_words K.Key.kind) (M.Memory.meaning book.old.memory).live book.old.state → shape_of book.new.state ≡ called_shape K.Key.kind K.Written.reads (M.Memory.meaning book.old.memory) book.old.state book.old.taken call }
     ensures sound { Sound (in_words K.Key.kind) (M.Memory.meaning book.old.memory).live book.old.state → Sound (in_words K.Key.kind) (M.Memory.meaning book.new.memory).live book.new.state }
 {
     match call {
@@ -75,6 +75,15 @@ fn ask<K: Written, M: Memory>(book: &mut Logbook<K, M>, call: Call) -> Result<To
             book.open()?;
             Ok(Told::Nothing)
         }
+        Call::Put { key, reading } => {
+            let steps = book.put(&K::written(key)?, reading)?;
+            Ok(Told::Steps(steps as u64))
+        }
+        Call::Change { key, reading } => {
+            let steps = book.change(&K::written(key)?, reading)?;
+            Ok(Told::Steps(steps as u64))
+        }
+        Call::Remove(key) => Ok(Told::Removed(book.remove(&K::written(key)?)?)),
         Call::Find(fields) => Ok(Told::Number(book.find(&K::written(fields)?)?)),
         Call::Next(fields) => Ok(Told::Pair(book.next(&K::written(fields)?)?)),
         Call::Pairs => Ok(Told::Number(book.pairs()? as u64)),

@@ -26,3 +26,33 @@ returns-in_ok-setting-in-margin-clause-call c = record {
   node = search rules;
   state = search rules;
 }
+
+pub returns-in_ok-probing-in-steps-clause-deed : goal.returns-in_ok-probing-in-steps-clause-deed
+returns-in_ok-probing-in-steps-clause-deed c = record {
+  put-stamp = search rules;
+  put-port = search rules;
+  change-stamp = search rules;
+  change-port = search rules;
+  remove-stamp = search rules;
+  remove-port = search rules;
+}
+
+pub returns-in_ok-setting-in-margin-clause-deed : goal.returns-in_ok-setting-in-margin-clause-deed
+returns-in_ok-setting-in-margin-clause-deed c = record {
+  put-stamp = search rules;
+  put-port = search rules;
+  change-stamp = search rules;
+  change-port = search rules;
+  remove-stamp = search rules;
+  remove-port = search rules;
+}
+
+pub returns-in_ok-call-in_default-clause-deed : goal.returns-in_ok-call-in_default-clause-deed
+returns-in_ok-call-in_default-clause-deed c = record {
+  put-stamp = search rules;
+  put-port = search rules;
+  change-stamp = search rules;
+  change-port = search rules;
+  remove-stamp = search rules;
+  remove-port = search rules;
+}
