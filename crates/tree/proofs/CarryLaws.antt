@@ -1,5 +1,5 @@
 -- A call carried out comes to what its plan says.
-use Rattle.std.proofs.Common.{◌≡◌, ℕ, ◌+◌, ◌<◌, ◌≤◌, true, false, cond, List, [], ◌∷◌, length, leb, eqb, get_or, Ok, Err, Option, Result, None, Some, sym, refl, ap, ◌∙◌, subst, ⊎_elim, arith}
+use Rattle.std.proofs.Common.{◌≡◌, ℕ, ◌+◌, ◌<◌, ◌≤◌, List, [], ◌∷◌, length, leb, eqb, get_or, Ok, Err, Option, Result, None, Some, sym, refl, ap, ◌∙◌, subst, ⊎_elim, arith}
 use Rattle.std.proofs.lemmas.Bool.{cases_Bool, cond-true, cond-false, le-leb}
 use Rattle.std.proofs.lemmas.Bool.Decides.{nat_tests}
 use Rattle.std.proofs.lemmas.List.{length-map}
@@ -12,14 +12,12 @@ use Rattle.leaves.specs.Pairs.{lookup}
 use Rattle.appends.specs.Append.{all_applied, append_lines, raised, slot_lines}
 use Rattle.appends.specs.Calls.{change_elements}
 use Rattle.appends.proofs.CallLaws.{calls_are_hold}
-use Rattle.index.specs.declared.node.Entry.{Entry}
 use Rattle.index.specs.declared.table.Index.{Index}
-use Rattle.index.specs.Meaning.{grouped, listed}
+use Rattle.index.specs.Meaning.{grouped}
 use Rattle.index.specs.Nodes.{numbers}
 use Rattle.index.specs.Search.{concat}
 use Rattle.plans.specs.declared.deed.Deed.{Deed}
 use Rattle.plans.specs.declared.deed.Deed.TheVariants.{Put, Change, Remove}
-use Rattle.plans.specs.declared.deed.Call.{Call}
 use Rattle.plans.specs.Deeds.{call_of, done, key_of}
 use Rattle.plans.specs.Plan.{Site, Tree, elements, granted, pairs_of, site, wish, writes, written}
 use Rattle.plans.specs.Told.{by_rule}

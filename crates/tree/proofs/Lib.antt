@@ -5,3 +5,6 @@ pub mod FormatLaws
 pub mod TurnLaws
 pub mod CarryLaws
 pub mod RewriteLaws
+pub mod RegroupLaws
+pub mod KeptLaws
+pub mod EndingLaws

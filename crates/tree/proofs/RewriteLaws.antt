@@ -1,24 +1,28 @@
 -- A rewrite comes to what its plan says: the leaves beside the key's, the word that links it, and the groups after.
-use Rattle.std.proofs.Common.{◌≡◌, ℕ, zero, suc, ◌+◌, ◌-◌, ◌*◌, ◌<◌, ◌≤◌, Bool, true, false, cond, ◌||◌, List, [], ◌∷◌, ◌++◌, length, take, drop, leb, ltb, eqb, get_or, is_some, Ok, Err, Option, Result, None, Some, sym, refl, ap, ◌∙◌, subst, ⊎_elim, zero-add, arith}
-use Rattle.std.specs.Option.{unwrap_or}
-use Rattle.std.proofs.lemmas.Bool.{cases_Bool, cases_lt, cond-true, cond-false, le-leb, lt-ltb, le-ltb, and_from, true≢false}
+use Rattle.std.proofs.Common.{◌≡◌, ℕ, zero, suc, ◌+◌, ◌-◌, ◌/◌, ◌<◌, ◌≤◌, Bool, true, false, ◌||◌, List, [], ◌∷◌, ◌++◌, length, take, drop, ltb, eqb, get_or, is_some, Ok, Err, Option, Result, None, Some, sym, refl, ap, ◌∙◌, subst, ⊎_elim, zero-add, arith}
+use Rattle.std.specs.Option.{ok_or, option_map, unwrap_or}
+use Rattle.std.proofs.lemmas.Bool.{cases_lt, cond-true, cond-false, leb-true, lt-ltb, le-ltb, and_from, true≢false}
 use Rattle.std.proofs.lemmas.Bool.Decides.{nat_tests}
 use Rattle.std.proofs.lemmas.List.{append-nil, drop-drop, drop_more, drop_all, get_or-append_right, length-map, length-append, length-drop, length-take, take_more}
+use Rattle.refusal.specs.declared.Refusal.{Refusal}
 use Rattle.refusal.specs.declared.Refusal.TheVariants.{NoRoom}
 use Rattle.tree.specs.Halting.{halted}
 use Rattle.keys.specs.InWords.{WordKind, WordOrdered}
 use Rattle.memory.specs.Meaning.{Words}
 use Rattle.writes.specs.Writes.{Answer, LineWrite, Run, Store, onward, outcome, perform, single}
 use Rattle.writes.specs.Laws.{change}
-use Rattle.leaves.specs.Layout.{leaf_at, word}
+use Rattle.leaves.specs.Asking.{count_answer, counted, elements_told, granted}
+use Rattle.leaves.specs.Layout.{count_of, elements, leaf_at, word}
 use Rattle.leaves.specs.Opening.{member}
 use Rattle.leaves.specs.Ascent.{all_pairs}
 use Rattle.books.specs.Opens.{UpTo}
 use Rattle.books.proofs.OpensLaws.{opens_from}
+use Rattle.fixed_vec.specs.declared.FixedVec.{FixedVec}
+use Rattle.leaves.specs.declared.leaf.Element.{Element}
 use Rattle.leaves.specs.declared.leaf.Pair.{Pair}
 use Rattle.rewrites.specs.Bounds.{bounds_after, last_key}
 use Rattle.rewrites.specs.Shares.{shared}
-use Rattle.rewrites.specs.Rewrite.{Filling, first_leaf, leaf_lines, leaf_numbers, leaves_lines, link_at, link_commit}
+use Rattle.rewrites.specs.Rewrite.{Filling, first_leaf, leaf_lines, link_at}
 use Rattle.rewrites.proofs.CallLaws.{link_after, one_lines, shared_of, two_lines}
 use Rattle.index.specs.declared.node.Entry.{Entry}
 use Rattle.index.specs.declared.table.Index.{Index}
@@ -30,16 +34,23 @@ use Rattle.index.specs.Search.{concat, front}
 use Rattle.index.proofs.ListLaws.{offset_within}
 use Rattle.index.proofs.PlaceLaws.{every_number, numbered, placed, within_parts}
 use Rattle.plans.specs.declared.decision.Decision.TheVariants as decision
-use Rattle.plans.specs.Plan.{Tree, last_of, pairs_of, refuse, rewriting, site, taken, writes}
+use Rattle.plans.specs.Plan.{Tree, next_leaf, pairs_of, refuse, rewriting, site, taken, writes}
+use Rattle.plans.specs.Decisions.{decision, few as few_next}
+use Rattle.plans.specs.declared.deed.Call.{Call}
+use Rattle.plans.specs.declared.deed.Call.TheVariants as call
+use Rattle.plans.specs.declared.decision.Decision.{Decision}
+use Rattle.plans.specs.Deeds.{may_split}
+use Rattle.plans.specs.Told.{NextLeaf}
 use Rattle.plans.proofs.FreeLaws.{taken_free}
 use Rattle.tree.specs.declared.logbook.place.Home.{Home}
-use Rattle.tree.specs.declared.logbook.carry.Halt.{Halt}
 use Rattle.tree.specs.declared.logbook.adopt.Regroup.TheVariants.{Split, Merge, Replace}
+use Rattle.tree.specs.declared.logbook.State.TheVariants.{Open}
 use Rattle.tree.specs.Shape.{groups}
-use Rattle.tree.specs.Turning.{Ending, Links, Working, by_plan, decided_ending, ending, number_for, place_of, regroup_to, regrouped, tree_of, wrote}
-use Rattle.tree.specs.Walk.{leaf_of, number_of, past_of}
+use Rattle.tree.specs.Turning.{Ending, Links, Working, MergesWith, by_plan, count_next, decided_ending, ending, number_for, place_of, regroup_to, regrouped, rewrite_ending, some_of, tree_of, wrote}
+use Rattle.tree.specs.Walk.{leaf_of, past_of}
 use Rattle.tree.proofs.LocatedLaws.{number_at}
 use Rattle.tree.proofs.TurnLaws.{leaf_there, number_is, same_some}
+use Rattle.tree.proofs.WalkLaws.{Counted, counted_drop, length_pairs, sound_all}
 
 -- A number of a leaf has its place, and what stands there is the leaf of that number.
 module _ (gs : List (List Entry)) where
@@ -139,6 +150,29 @@ module _ (o : WordKind) (ordered : WordOrdered o) (m : List ℕ) (x : Index) (w 
       (λ ge. let no = has ∙ work.home.2 ∙ ap (leaf_of gs) (after_is ∙ unplaced_at gs (n + 1) ge) in let z : ◌≡◌ {A = ℕ} 0 1 = cc in absurd (omega arith))
       (cases_lt (n + 1) (length (concat gs)))
 
+  all_asked : Counted m (numbers (concat gs))
+  all_asked = sound_all o m (numbers (concat gs)) work.fits.opens
+
+  pub next_counted : (k : ℕ) → Some k ≡ h.next → count_answer m k ≡ Ok (count_of m k)
+  next_counted k has = (subst (Counted m) (next_there k has) (counted_drop m (suc n) (numbers (concat gs)) all_asked)).0
+
+  pub next_elements : (k : ℕ) (r : Result (FixedVec Element 16) Refusal) → Some k ≡ h.next → elements_told r ≡ counted m k (elements m k) → elements_told r ≡ Ok (elements m k (count_of m k))
+  next_elements k r has e = e ∙ ap (λ (c : Result ℕ Refusal). granted c (elements m k)) (next_counted k has)
+
+  none_next : None ≡ h.next → drop (suc n) (numbers (concat gs)) ≡ []
+  none_next has =
+      ⊎_elim
+      (λ lt. let no = has ∙ work.home.2 ∙ ap (leaf_of gs) after_is ∙ leaf_number gs (n + 1) lt in let z : ◌≡◌ {A = ℕ} 0 1 = cc in absurd (omega arith))
+      (λ ge. drop_all (suc n) (numbers (concat gs)) (rw length-map (omega (arith, ge))))
+      (cases_lt (n + 1) (length (concat gs)))
+
+  -- What the decision is told of the next leaf.
+  pub count_told : count_next m h.next ≡ Ok (option_map (λ (l : NextLeaf). l.count) (next_leaf o m (drop (suc n) (numbers (concat gs)))))
+  count_told = by h.next refl where
+    by : (l : Option ℕ) → l ≡ h.next → count_next m l ≡ Ok (option_map (λ (l : NextLeaf). l.count) (next_leaf o m (drop (suc n) (numbers (concat gs)))))
+    by None e = ap (λ ks. Ok (option_map (λ (l : NextLeaf). l.count) (next_leaf o m ks))) (sym (none_next e))
+    by (Some k) e = ap some_of (next_counted k e) ∙ ap (λ ks. Ok (option_map (λ (l : NextLeaf). l.count) (next_leaf o m ks))) (sym (next_there k e))
+
   pub past_is : unwrap_or (past_of gs (place_after gs h.place)) 0 ≡ first_leaf (drop (suc (suc n)) (numbers (concat gs)))
   past_is =
       let e : n + 1 + 1 ≡ suc (suc n) = omega arith in
@@ -237,6 +271,11 @@ length_front [] = refl
 length_front (b ∷ []) = refl
 length_front (b ∷ c ∷ bs) = ap suc (length_front (c ∷ bs)) ∙ omega arith
 
+-- A split that lacks room.
+pub split_crowded : (o : WordKind) (m : Words) (x : Index) (tk : Option ℕ) (w : ℕ × ℕ) (ps : List Pair) (share : ℕ) → word m.live 3 < length (numbers (listed x)) + 2
+    → ending (Err (halted NoRoom 0)) m (groups (grouped x)) tk ≡ decided_ending o m x tk w ps (decision.Split share)
+split_crowded o m x tk w ps share crowd = ap (by_plan (number_for o x w) m x tk) (sym (cond-true (ltb (word m.live 3) (length (numbers (listed x)) + 2)) (refuse NoRoom) _ (lt-ltb _ _ crowd)))
+
 -- The three rewrites.
 module _ (o : WordKind) (ordered : WordOrdered o) (m : Words) (x : Index) (tk : Option ℕ) (w : ℕ × ℕ) (h : Home) (work : Working o m.live x w h) (at : ℕ)
     (linked : Links (leaf_of (grouped x) (place_before (grouped x) h.place)) at) (e : Ending) (after : Words) (steps : ℕ) (written : Answer) where
@@ -327,9 +366,6 @@ module _ (o : WordKind) (ordered : WordOrdered o) (m : Words) (x : Index) (tk : 
       → ◌≡◌ {A = List Filling} (record { leaf = left; content = take share ps } ∷ record { leaf = right; content = drop share ps } ∷ []) (record { leaf = one; content = take share qs } ∷ record { leaf = two; content = drop share qs } ∷ [])
   halved share left right ps qs l r same = cc
 
-  pub split_crowded : (ps : List Pair) (share : ℕ) → word m.live 3 < length row + 2 → ending (Err (halted NoRoom 0)) m (groups (grouped x)) tk ≡ decided_ending o m x tk w ps (decision.Split share)
-  split_crowded ps share crowd = ap (by_plan num m x tk) (sym (cond-true (ltb (word m.live 3) (length row + 2)) (refuse NoRoom) _ (lt-ltb _ _ crowd)))
-
   pub split_ends : (ps : List Pair) (share left right next : ℕ) (bound : ℕ × ℕ) → length row + 2 ≤ word m.live 3 → left ≡ one → right ≡ two → next ≡ unwrap_or h.next 0 → bound ≡ last_key (take share ps)
       → share ≤ 16 → share ≤ length ps → length ps ≤ 17 → length ps ≤ share + 16
       → e ≡ wrote after steps written (groups (regroup_to (grouped x) h.place (Split (entry left bound) right))) tk (Some right)
@@ -370,3 +406,55 @@ last_key_of (q ∷ r ∷ ps) (suc i) p h is = last_key_of (r ∷ ps) i p (omega 
 
 pub last_key_at : (ps : List Pair) (share : ℕ) (p : Pair) → 1 ≤ share → share ≤ length ps → p ≡ get_or ps (share - 1) p → p.key ≡ last_key (take share ps)
 last_key_at ps share p some few is = let e : suc (share - 1) ≡ share = omega arith in last_key_of ps (share - 1) p (omega (arith, some, few)) is ∙ ap (λ i. last_key (take i ps)) e
+
+pub right_is : (a A b B r : ℕ) (ks : List ℕ) → ◌≡◌ {A = Result ℕ Refusal} (Ok r) (Ok (taken a (b ∷ ks) (Some b))) → a ≡ A → b ≡ B → r ≡ taken A (B ∷ ks) (Some B)
+right_is a A b B r ks e ea eb = let f : r ≡ taken a (b ∷ ks) (Some b) = cc in f ∙ (ap (λ n. taken n (b ∷ ks) (Some b)) ea ∙ ap (λ k. taken A (k ∷ ks) (Some k)) eb)
+
+pub has_next : (next : Option ℕ) (k : ℕ) (e : Refusal) → ok_or next e ≡ Ok k → Some k ≡ next
+has_next None k e h = let z : ◌≡◌ {A = ℕ} 0 1 = cc in absurd (omega arith)
+has_next (Some j) k e h = cc
+
+pub same_index : (a b : Index) → Open a ≡ Open b → a ≡ b
+same_index a b e = cc
+
+-- What the rule's decision says of what it was told.
+pub decision_split : (may : Bool) (n : ℕ) (next : Option ℕ) (left : ℕ) → decision.Split left ≡ decision may n next → (8 < n) × (left ≡ n / 2)
+decision_split may n next left e = grind (arith, nat_tests)
+
+pub decision_merge : (may : Bool) (n : ℕ) (next : Option ℕ) → decision.Merge ≡ decision may n next → (n ≤ 8) × (few_next next ≡ true)
+decision_merge may n next e = grind (arith, nat_tests)
+
+pub decision_replace : (n : ℕ) (next : Option ℕ) → decision.Replace ≡ decision true n next → n ≤ 8
+decision_replace n next e = grind (arith, nat_tests)
+
+pub same_count : (a b : Option ℕ) → ◌≡◌ {A = Result (Option ℕ) Refusal} (Ok a) (Ok b) → a ≡ b
+same_count a b e = cc
+
+count_is : (m : List ℕ) (k c : ℕ) → Ok c ≡ count_answer m k → c ≡ count_of m k
+count_is m k c e = grind (arith, nat_tests)
+
+-- Where the rule merges, both leaves fit in one.
+pub merges_with : (o : WordKind) (m : List ℕ) (next : Option ℕ) (n : ℕ) (count : Option ℕ) → Ok count ≡ count_next m next → n ≤ 8 → few_next count ≡ true → MergesWith o m next n
+merges_with o m None n count is small t = let e : count ≡ None = cc in absurd (true≢false (sym t ∙ ap few_next e))
+merges_with o m (Some k) n count is small t = by (count_answer m k) refl is where
+  by : (r : Result ℕ Refusal) → r ≡ count_answer m k → Ok count ≡ some_of r → n + length (pairs_of o m k) ≤ 16
+  by (Err e) r_is told = let z : ◌≡◌ {A = ℕ} 0 1 = cc in absurd (omega arith)
+  by (Ok c) r_is told =
+      let same : c ≡ count_of m k = count_is m k c r_is in
+      let counted : count ≡ Some c = same_count _ _ told in
+      let eight : c ≤ 8 = leb-true c 8 (sym (ap few_next counted) ∙ t) in
+      omega (arith, small, eight, same, length_pairs o m k (count_of m k))
+
+-- The rule's choice is what the code decides.
+pub rule_is : (o : WordKind) (ordered : WordOrdered o) (m : Words) (x : Index) (tk : Option ℕ) (w : ℕ × ℕ) (h : Home) → Working o m.live x w h
+    → (call : Call) (ps : List Pair) (count : Option ℕ) (may : Bool) (n : ℕ) (d : Decision) (e : Ending) → Ok count ≡ count_next m.live h.next → may ≡ may_split call → n ≡ length ps → d ≡ decision may n count
+    → e ≡ decided_ending o m x tk w ps d → e ≡ rewrite_ending o m x tk w call ps
+rule_is o ordered m x tk w h work call ps count may n d e told may_is n_is d_is is =
+    let count_is = same_count _ _ (told ∙ count_told o ordered m.live x w h work) in
+    is ∙ ap (decided_ending o m x tk w ps) (d_is ∙ (ap (λ b. decision b n count) may_is ∙ (ap (λ k. decision (may_split call) k count) n_is ∙ ap (decision (may_split call) (length ps)) count_is)))
+
+-- Where the rule replaces, one leaf takes all.
+pub replaced_few : (asked : Call) (may : Bool) (n : ℕ) (count : Option ℕ) (ps : List Pair) → decision.Replace ≡ decision may n count → may ≡ may_split asked → n ≡ length ps → (asked ≡ call.Remove → length ps ≤ 16) → length ps ≤ 16
+replaced_few call.Put may n count ps is may_is size small = let e : decision.Replace ≡ decision true n count = is ∙ ap (λ b. decision b n count) may_is in omega (arith, decision_replace n count e, size)
+replaced_few call.Change may n count ps is may_is size small = let e : decision.Replace ≡ decision true n count = is ∙ ap (λ b. decision b n count) may_is in omega (arith, decision_replace n count e, size)
+replaced_few call.Remove may n count ps is may_is size small = small refl

@@ -1,5 +1,5 @@
 -- A call of an open logbook: where its key belongs, and what its leaf holds.
-use Rattle.std.proofs.Common.{◌≡◌, ℕ, ◌+◌, ◌≤◌, true, cond, List, [], ◌∷◌, length, get_or, Some, None, Ok, Err, Option, Result, sym, refl, ap, ◌∙◌, subst, arith}
+use Rattle.std.proofs.Common.{◌≡◌, ℕ, true, List, get_or, Some, None, Ok, Err, Option, Result, sym, refl, ap, ◌∙◌, arith}
 use Rattle.std.proofs.lemmas.Bool.{cond-true}
 use Rattle.std.proofs.lemmas.Bool.Decides.{nat_tests}
 use Rattle.fixed_vec.specs.declared.FixedVec.{FixedVec}
@@ -12,26 +12,25 @@ use Rattle.leaves.specs.Asking.{count_answer, counted, elements_told, granted}
 use Rattle.leaves.specs.Layout.{Within, count_of, elements}
 use Rattle.leaves.specs.Pairs.{latest, lookup}
 use Rattle.leaves.proofs.ElementLaws.{lookup_pairs}
-use Rattle.books.specs.Bounds.{locate}
 use Rattle.books.specs.Footprint.{book}
 use Rattle.books.proofs.QuestionLaws.{finds_hold}
 use Rattle.index.specs.declared.node.Entry.{Entry}
 use Rattle.index.specs.declared.table.Index.{Index}
 use Rattle.index.specs.declared.table.Place.{Place}
-use Rattle.index.specs.Meaning.{grouped, leaf_at, listed}
+use Rattle.index.specs.Meaning.{grouped, listed}
 use Rattle.index.specs.Nodes.{bounds, entry, numbers}
 use Rattle.index.specs.Places.{position, within}
-use Rattle.index.specs.Search.{concat, front, search}
+use Rattle.index.specs.Search.{concat}
 use Rattle.plans.specs.declared.deed.Deed.{Deed}
 use Rattle.plans.specs.Deeds.{key_of}
-use Rattle.plans.specs.Plan.{Wish, declined, pairs_of, plan_at, carried, site, wish}
+use Rattle.plans.specs.Plan.{Wish, pairs_of, carried, site, wish}
 use Rattle.plans.specs.Told.{by_rule}
 use Rattle.tree.specs.declared.logbook.place.Home.{Home}
 use Rattle.tree.specs.declared.logbook.State.{State}
 use Rattle.tree.specs.declared.logbook.State.TheVariants.{Blank, Open, Dark}
 use Rattle.tree.specs.Halting.{halted}
-use Rattle.tree.specs.Shape.{groups, shape_of}
-use Rattle.tree.specs.Sound.{Fits, Sound}
+use Rattle.tree.specs.Shape.{shape_of}
+use Rattle.tree.specs.Sound.{Sound}
 use Rattle.tree.specs.Telling.{indexed}
 use Rattle.tree.specs.Turning.{Ending, Working, by_plan, call_ending, ending, number_for, tree_of}
 use Rattle.tree.specs.Walk.{HomeIn, leaf_of, number_of}

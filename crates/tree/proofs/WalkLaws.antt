@@ -10,7 +10,7 @@ use Rattle.leaves.specs.Asking.{count_answer, counted, granted}
 use Rattle.leaves.specs.Pairs.{first_after, pairs}
 use Rattle.leaves.proofs.RunLaws.{length_applied}
 use Rattle.leaves.specs.Layout.{count_of, element, next_of, word}
-use Rattle.leaves.specs.Opening.{greatest}
+use Rattle.leaves.specs.Opening.{greatest, open_answer}
 use Rattle.books.specs.Opens.{AllFine, Leads, UpTo, lone}
 use Rattle.books.specs.Questions.{first_of, or_else, pairs_in_all}
 use Rattle.books.proofs.BoundLaws.{locates}
@@ -125,7 +125,7 @@ all_counted o m link n alone bound (k ∷ ks) leads within fine most fits = (
   all_counted o m (next_of m k) n alone (greatest o m k (count_of m k)) ks leads.2 within.1 fine.1 most fits,
 )
 
-counted_drop : (m : List ℕ) (n : ℕ) (ks : List ℕ) → Counted m ks → Counted m (drop n ks)
+pub counted_drop : (m : List ℕ) (n : ℕ) (ks : List ℕ) → Counted m ks → Counted m (drop n ks)
 counted_drop m zero ks h = h
 counted_drop m (suc n) [] h = tt
 counted_drop m (suc n) (k ∷ ks) h = counted_drop m n ks h.1
@@ -134,11 +134,14 @@ counted_rest : (m : List ℕ) (gs : List (List Entry)) (p : Option Place) → Co
 counted_rest m gs None h = tt
 counted_rest m gs (Some p) h = counted_drop m (position gs p) (numbers (concat gs)) h
 
+pub sound_all : (o : WordKind) (m ks : List ℕ) → open_answer o m ≡ Ok ks → Counted m ks
+sound_all o m ks h =
+    let opens = opens_from o m ks h in
+    all_counted o m (word m 2) (word m 3) (lone ks) None ks opens.leads opens.within opens.fine opens.most opens.fits
+
 pub sound_counted : (o : WordKind) (m : List ℕ) (s : State) (p : Option Place) → Sound o m s → Counted m (onwards s p)
 sound_counted o m Blank p h = tt
-sound_counted o m (Open x) p h =
-    let opens = opens_from o m (numbers (listed x)) h.opens in
-    subst (Counted m) (sym (onwards_is x p)) (counted_rest m (grouped x) p (all_counted o m (word m 2) (word m 3) (lone (numbers (listed x))) None (numbers (listed x)) opens.leads opens.within opens.fine opens.most opens.fits))
+sound_counted o m (Open x) p h = subst (Counted m) (sym (onwards_is x p)) (counted_rest m (grouped x) p (sound_all o m (numbers (listed x)) h.opens))
 sound_counted o m Dark p h = tt
 
 -- What next and pairs tell of a sound logbook, from the leaves of the index.
@@ -192,7 +195,7 @@ module _ (o : WordKind) (m : List ℕ) (s : State) (p : Place) (leaf : ℕ) (aft
       sym (ap (λ ks. Ok (n + pairs_in_all o m ks)) here ∙ ap (λ k. Ok (n + (k + pairs_in_all o m (onwards s after)))) is ∙ ap Ok sum) ∙ inv
 
 -- A leaf counts at most 16 elements, so it has no more pairs.
-length_pairs : (o : WordKind) (m : List ℕ) (k n : ℕ) → length (pairs o m k n) ≤ n
+pub length_pairs : (o : WordKind) (m : List ℕ) (k n : ℕ) → length (pairs o m k n) ≤ n
 length_pairs o m k zero = omega arith
 length_pairs o m k (suc n) = omega (arith, length_pairs o m k n, length_applied o (element m k n) (pairs o m k n))
 

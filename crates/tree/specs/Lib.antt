@@ -5,3 +5,4 @@ pub mod Walk
 pub mod Formatting
 pub mod Halting
 pub mod Turning
+pub mod Calls

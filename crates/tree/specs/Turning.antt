@@ -7,7 +7,7 @@ use Rattle.refusal.specs.declared.Refusal.{Refusal}
 use Rattle.refusal.specs.declared.Refusal.TheVariants.{NoPower, Blank as NotOpened}
 use Rattle.keys.specs.InWords.{WordKind}
 use Rattle.memory.specs.Meaning.{Words}
-use Rattle.writes.specs.Writes.{Answer, Run, outcome, perform}
+use Rattle.writes.specs.Writes.{Answer, perform}
 use Rattle.writes.specs.Laws.{change}
 use Rattle.leaves.specs.declared.leaf.Pair.{Pair}
 use Rattle.leaves.specs.Asking.{count_answer}
@@ -117,10 +117,16 @@ abbrev pub told : Result Done Halt → Result ℕ Halt
 told (Ok d) = Ok d.steps
 told (Err h) = Err h
 
--- A remove tells the reading that it took out.
+-- A remove ends as a call does, and tells the reading that it took out.
 abbrev pub removal : Option ℕ → Result ℕ Halt → Result Removed Halt
 removal held (Ok n) = Ok (record { reading = unwrap_or held 0; steps = n })
 removal held (Err h) = Err h
+
+pub record RemovalEnds (m : Words) (shape : Shape) (taken : Option ℕ) (answer : Result Removed Halt) (held : Option ℕ) (e : Ending) : Type 0 where
+  pub told : answer ≡ removal held e.answer
+  pub memory : m ≡ e.memory
+  pub state : shape ≡ e.shape
+  pub last : taken ≡ e.taken
 
 -- What a rewrite does to the groups of leaves, and which new leaf it took last.
 abbrev pub regroup_to : List (List Entry) → Place → Regroup → List (List Entry)

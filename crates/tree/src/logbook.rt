@@ -2,6 +2,7 @@
 use index::table::Index;
 use std::marker::PhantomData;
 
+pub mod adopt;
 pub mod carry;
 pub mod find;
 pub mod format;
@@ -11,7 +12,6 @@ pub mod node;
 pub mod open;
 pub mod pairs;
 pub mod place;
-pub mod adopt;
 pub mod rewrite;
 pub mod turn;
 

@@ -21,7 +21,7 @@ turns_hold o m before commit old ks ps settled opens t =
       if_new = λ words cut new. rw ((decided words cut).1 new) t.done;
     }
 
-enough_or_short : (p : Power) (k : ℕ) → Enough p k ⊎ ((n : ℕ) × (p ≡ left n) × (n < k))
+pub enough_or_short : (p : Power) (k : ℕ) → Enough p k ⊎ ((n : ℕ) × (p ≡ left n) × (n < k))
 enough_or_short endless k = inl tt
 enough_or_short (left n) k = ⊎_elim (λ short. inr (n, refl, short)) inl (cases_lt n k)
 

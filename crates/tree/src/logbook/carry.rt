@@ -28,7 +28,11 @@ impl From<Refusal> for Halt {
 
 impl<K: Key, M: Memory> Logbook<K, M> {
     // Ends a call that wrote: a refusal of the memory makes the logbook dark.
-    pub(crate) fn close(&mut self, written: Result<(), Refusal>, steps: usize) -> Result<usize, Halt>
+    pub(crate) fn close(
+        &mut self,
+        written: Result<(), Refusal>,
+        steps: usize,
+    ) -> Result<usize, Halt>
         ensures steps { steps_of result ≡ steps }
         ensures ended { ended result ≡ written }
         ensures memory { self.new.memory ≡ self.old.memory }

@@ -18,16 +18,16 @@ ghost use Rattle.tree.specs.Turning.{Links, MergesWith, Taking, Working, count_n
 ghost use Rattle.tree.specs.Walk.{leaf_of, past_of};
 
 use super::Logbook;
+use super::adopt::Regroup;
 use super::carry::Halt;
 use super::place::{Home, leaf_at};
-use super::adopt::Regroup;
 use fixed_vec::FixedVec;
 use index::node::Entry;
 use index::table::{Index, Place};
 use keys::Key;
-use leaves::leaf::{Pair, Run};
 use leaves::leaf::ask::{count_in, elements_in};
 use leaves::leaf::change::{both, pairs_of};
+use leaves::leaf::{Pair, Run};
 use memory::Memory;
 use plans::decision::{Decision, decide};
 use plans::deed::Call;
@@ -126,7 +126,7 @@ impl<K: Key, M: Memory> Logbook<K, M> {
         ensures done { (x : AnIndex) (w : ℕ × ℕ) → self.old.state ≡ Open x → Working (in_words K.Key.kind) (M.Memory.meaning self.old.memory).live x w home → 1 ≤ share → share ≤ 16 → share ≤ length (items pairs.now) → length (items pairs.now) ≤ share + 16 → ending result (M.Memory.meaning self.new.memory) (shape_of self.new.state) self.new.taken ≡ decided_ending (in_words K.Key.kind) (M.Memory.meaning self.old.memory) x self.old.taken w (items pairs.now) (SplitInto share) }
     {
         let new = self.new_leaf(home.place)?;
-        if new.leaves < new.linked + 2 {
+        if new.leaves.saturating_sub(new.linked) < 2 {
             return Err(Refusal::NoRoom.into());
         }
         let right = self.second_leaf(&new)?;
@@ -168,7 +168,12 @@ impl<K: Key, M: Memory> Logbook<K, M> {
             next,
             all.as_slice(),
         );
-        self.conclude(written, steps, home.place, Regroup::Merge { leaf: new.leaf })
+        self.conclude(
+            written,
+            steps,
+            home.place,
+            Regroup::Merge { leaf: new.leaf },
+        )
     }
 
     // One new leaf in the place of the key's.
@@ -186,7 +191,12 @@ impl<K: Key, M: Memory> Logbook<K, M> {
             next,
             pairs.as_slice(),
         );
-        self.conclude(written, steps, home.place, Regroup::Replace { leaf: new.leaf })
+        self.conclude(
+            written,
+            steps,
+            home.place,
+            Regroup::Replace { leaf: new.leaf },
+        )
     }
 
     // How many elements the next leaf counts, if there is one.

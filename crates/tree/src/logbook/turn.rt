@@ -13,7 +13,7 @@ ghost use Rattle.index.specs.declared.table.Index.{Index};
 ghost use Rattle.tree.specs.declared.logbook.State.TheVariants.{Open};
 ghost use Rattle.tree.specs.Shape.{shape_of};
 ghost use Rattle.tree.specs.Sound.{Sound};
-ghost use Rattle.tree.specs.Turning.{Working, call_ending, changed, ending, removal, told, wished};
+ghost use Rattle.tree.specs.Turning.{Working, call_ending, changed, ending, RemovalEnds, told, wished};
 
 use super::Logbook;
 use super::carry::Halt;
@@ -116,6 +116,7 @@ impl<K: Key, M: Memory> Logbook<K, M> {
     // Adds a pair; refused where the key is in the book. Told: the steps.
     pub fn put(&mut self, key: &K, reading: u64) -> Result<usize, Halt>
         ensures ending { Sound (in_words K.Key.kind) (M.Memory.meaning self.old.memory).live self.old.state → ending result (M.Memory.meaning self.new.memory) (shape_of self.new.state) self.new.taken ≡ call_ending (in_words K.Key.kind) (M.Memory.meaning self.old.memory) self.old.state self.old.taken (Put (K.Key.kind.form key.now) reading) }
+        ensures sound { Sound (in_words K.Key.kind) (M.Memory.meaning self.old.memory).live self.old.state → Sound (in_words K.Key.kind) (M.Memory.meaning self.new.memory).live self.new.state }
     {
         let key = key.pack();
         Ok(self.turn(Deed::Put { key, reading })?.steps)
@@ -124,6 +125,7 @@ impl<K: Key, M: Memory> Logbook<K, M> {
     // Gives a key another reading; refused where the key is not in the book. Told: the steps, none for the reading that it has.
     pub fn change(&mut self, key: &K, reading: u64) -> Result<usize, Halt>
         ensures ending { Sound (in_words K.Key.kind) (M.Memory.meaning self.old.memory).live self.old.state → ending result (M.Memory.meaning self.new.memory) (shape_of self.new.state) self.new.taken ≡ call_ending (in_words K.Key.kind) (M.Memory.meaning self.old.memory) self.old.state self.old.taken (Change (K.Key.kind.form key.now) reading) }
+        ensures sound { Sound (in_words K.Key.kind) (M.Memory.meaning self.old.memory).live self.old.state → Sound (in_words K.Key.kind) (M.Memory.meaning self.new.memory).live self.new.state }
     {
         let key = key.pack();
         Ok(self.turn(Deed::Change { key, reading })?.steps)
@@ -131,6 +133,8 @@ impl<K: Key, M: Memory> Logbook<K, M> {
 
     // Takes a pair out; refused where the key is not in the book. Told: its reading, and the steps.
     pub fn remove(&mut self, key: &K) -> Result<Removed, Halt>
+        ensures ending { Sound (in_words K.Key.kind) (M.Memory.meaning self.old.memory).live self.old.state → RemovalEnds (M.Memory.meaning self.new.memory) (shape_of self.new.state) self.new.taken result (lookup (K.Key.kind.form key.now) (book (in_words K.Key.kind) (M.Memory.meaning self.old.memory).live)) (call_ending (in_words K.Key.kind) (M.Memory.meaning self.old.memory) self.old.state self.old.taken (Remove (K.Key.kind.form key.now))) }
+        ensures sound { Sound (in_words K.Key.kind) (M.Memory.meaning self.old.memory).live self.old.state → Sound (in_words K.Key.kind) (M.Memory.meaning self.new.memory).live self.new.state }
     {
         let key = key.pack();
         let done = self.turn(Deed::Remove { key })?;

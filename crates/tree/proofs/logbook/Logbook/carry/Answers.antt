@@ -1,4 +1,4 @@
-use Rattle.std.proofs.Common.{◌≡◌, ◌<◌, [], length, sym, ap, ◌∙◌, refl, arith}
+use Rattle.std.proofs.Common.{◌<◌, [], length, sym, ap, ◌∙◌, arith}
 use Rattle.std.proofs.lemmas.Bool.Decides.{nat_tests}
 use Rattle.std.proofs.lemmas.List.{nil_from_length}
 use Rattle.fixed_vec.specs.Items.{items}
@@ -13,7 +13,6 @@ use Rattle.tree.specs.Turning.{ending}
 use Rattle.tree.specs.Shape.{shape_of}
 use Rattle.appends.specs.Append.{append_lines}
 use Rattle.writes.specs.Writes.{perform}
-use Rattle.tree.specs.Turning.{rewrite_ending}
 use Rattle.tree.proofs.CarryLaws.{appended, nothing_done, rewritten_is}
 use Rattle.tree.proofs.TurnLaws.{leaf_within}
 use Rattle.tree.proofs.logbook.Logbook.carry.Goals as goal
