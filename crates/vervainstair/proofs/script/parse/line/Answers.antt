@@ -56,3 +56,16 @@ returns-in_ok-call-in_default-clause-deed c = record {
   remove-stamp = search rules;
   remove-port = search rules;
 }
+
+pub returns-in_ok-deed-in-put-clause-call : goal.returns-in_ok-deed-in-put-clause-call
+returns-in_ok-deed-in-put-clause-call c = record {
+  format = search rules;
+  opens = search rules;
+  find-stamp = search rules;
+  find-port = search rules;
+  next-stamp = search rules;
+  next-port = search rules;
+  pairs = search rules;
+  node = search rules;
+  state = search rules;
+}
