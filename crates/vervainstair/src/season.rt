@@ -38,7 +38,9 @@ fn show_season(rt: &impl Print) -> io::Result<()> {
     show_calls(rt, "buffered", &buffered)?;
     show_calls(rt, "layered ", &layered)?;
     println!(rt; "")?;
-    println!(rt; "  memory    pairs  by next  opened anew  last correction    reading  steps left")?;
+    println!(rt;
+        "  memory    pairs  by next  opened anew  last correction    reading  steps left"
+    )?;
     show_ending(rt, "through ", &through.ending)?;
     println!(rt; "     endless")?;
     show_ending(rt, "buffered", &buffered.ending)?;
@@ -53,7 +55,10 @@ fn show_head(rt: &impl Print) -> io::Result<()> {
     println!(rt; "  put: one a day from 2023 day 300 to 2024 day 366; change: those of 2024")?;
     println!(rt; "  remove: those of 2023, and of 2024 all but every sixth day")?;
     println!(rt;
-        "  memories of {SIZE} words: through; buffered, {STEPS} steps; layered: the same under a margin of 1 line and a rotation by 1 line"
+        "  memories of {SIZE} words: through, with endless steps; buffered, with {STEPS}; and layered,"
+    )?;
+    println!(rt;
+        "  which is such a buffered one under a margin of 1 line and a rotation by 1 line"
     )?;
     println!(rt; "")?;
     println!(rt;
@@ -76,8 +81,12 @@ fn show_tally(rt: &impl Print, name: &str, call: &str, tally: &Tally) -> io::Res
         leaves,
         ..
     } = *tally;
-    let (appends, splits, merges, replaced) =
-        (tally.appends, tally.splits, tally.merges, tally.replaced);
+    let (appends, splits, merges, replaced) = (
+        tally.appends,
+        tally.splits,
+        tally.merges,
+        tally.replaced,
+    );
     print!(rt; "  {name}  {call}  {calls:>5}  {granted:>7}  {steps:>5}  {appends:>7}  ")?;
     println!(rt; "{splits:>6}  {merges:>6}  {replaced:>12}  {most:>10}  {leaves:>12}")
 }

@@ -52,11 +52,7 @@ impl Tally {
     }
 
     // Counts one call in, by its answer.
-    pub fn count<M: Memory>(
-        &mut self,
-        book: &mut Logbook<Stamp, M>,
-        answer: Result<usize, Halt>,
-    ) {
+    pub fn count<M: Memory>(&mut self, book: &mut Logbook<Stamp, M>, answer: Result<usize, Halt>) {
         raise(&mut self.calls);
         let Ok(steps) = answer else {
             return;
