@@ -2,4 +2,5 @@
 mod of_image;
 mod of_keys;
 mod of_lists;
+mod of_logbook;
 mod of_memory;

@@ -1,1 +1,3 @@
+pub mod AnswerLaws
+pub mod AskLaws
 pub mod PileLaws

@@ -13,7 +13,7 @@ use Rattle.vervainstair.specs.declared.script.line.Setting.TheVariants.{Layer, K
 use Rattle.vervainstair.specs.declared.script.line.Probing.{Probing}
 use Rattle.vervainstair.specs.declared.script.line.Probing.TheVariants.{Steps, Poke, Dump}
 use Rattle.vervainstair.specs.declared.script.line.Call.{Call}
-use Rattle.vervainstair.specs.declared.script.line.Call.TheVariants.{Format, Open, Find, Next, Pairs, Node, State}
+use Rattle.vervainstair.specs.declared.script.line.Call.TheVariants.{Format, Open, Put, Change, Remove, Find, Next, Pairs, Node, State}
 use Rattle.vervainstair.specs.declared.script.wrong.Wrong.{Wrong}
 
 -- The words of a line, and the text of word i, which is empty past the end.
@@ -51,7 +51,12 @@ module _ {X : Type 0} (ws : Words) (r : Result X Wrong) where
       (IsNumber (word ws i) × IsNumber (word ws (i + 1)) × IsNumber (word ws (i + 2)))
       (f (number_of (word ws i)) (number_of (word ws (i + 1))) (number_of (word ws (i + 2))))
 
--- What the words of a line ask for, by their form: memory, setting, probing, and call are what is made of each part in a line.
+  abbrev pub Takes₄ : Type 0 → ℕ → (ℕ → ℕ → ℕ → ℕ → X) → Type 0
+  Takes₄ form i f = form → OkIff r
+      (IsNumber (word ws i) × IsNumber (word ws (i + 1)) × IsNumber (word ws (i + 2)) × IsNumber (word ws (i + 3)))
+      (f (number_of (word ws i)) (number_of (word ws (i + 1))) (number_of (word ws (i + 2))) (number_of (word ws (i + 3))))
+
+-- What the words of a line ask for, by their form: memory, setting, probing and call are what is made of each part in a line. A deed changes the book.
 module _ {X : Type 0} (ws : Words) (r : Result X Wrong) where
   pub record ReadsMemory (memory : Make → X) : Type 0 where
     pub through : Takes₁ ws r (Form₂ ws (codes "memory") (codes "through") 3) 2 (λ n. memory (Through n))
@@ -68,6 +73,14 @@ module _ {X : Type 0} (ws : Words) (r : Result X Wrong) where
     pub steps : Form ws (codes "steps") 1 → r ≡ Ok (probing Steps)
     pub poke : Takes₂ ws r (Form ws (codes "poke") 3) 1 (λ i w. probing (Poke i w))
     pub dump : Form ws (codes "dump") 1 → r ≡ Ok (probing Dump)
+
+  pub record ReadsDeed (call : Call → X) : Type 0 where
+    pub put-stamp : Takes₄ ws r (Form ws (codes "put") 5) 1 (λ y d t v. call (Put (StampFields y d t) v))
+    pub put-port : Takes₃ ws r (Form ws (codes "put") 4) 1 (λ i p v. call (Put (PortFields i p) v))
+    pub change-stamp : Takes₄ ws r (Form ws (codes "change") 5) 1 (λ y d t v. call (Change (StampFields y d t) v))
+    pub change-port : Takes₃ ws r (Form ws (codes "change") 4) 1 (λ i p v. call (Change (PortFields i p) v))
+    pub remove-stamp : Takes₃ ws r (Form ws (codes "remove") 4) 1 (λ y d t. call (Remove (StampFields y d t)))
+    pub remove-port : Takes₂ ws r (Form ws (codes "remove") 3) 1 (λ i p. call (Remove (PortFields i p)))
 
   pub record ReadsCall (call : Call → X) : Type 0 where
     pub format : Takes₁ ws r (Form ws (codes "format") 2) 1 (λ n. call (Format n))
@@ -90,6 +103,10 @@ SettingForm ws = Form ws (codes "margin") 2 ⊎ (Form ws (codes "rotation") 2 �
 
 abbrev pub ProbingForm : Words → Type 0
 ProbingForm ws = Form ws (codes "steps") 1 ⊎ (Form ws (codes "poke") 3 ⊎ Form ws (codes "dump") 1)
+
+abbrev pub DeedForm : Words → Type 0
+DeedForm ws = Form ws (codes "put") 5 ⊎ (Form ws (codes "put") 4 ⊎ (Form ws (codes "change") 5 ⊎ (Form ws (codes "change") 4
+    ⊎ (Form ws (codes "remove") 4 ⊎ Form ws (codes "remove") 3))))
 
 abbrev pub CallForm : Words → Type 0
 CallForm ws = Form ws (codes "format") 2 ⊎ (Form ws (codes "open") 1 ⊎ (Form ws (codes "find") 4 ⊎ (Form ws (codes "find") 3

@@ -1,3 +1,7 @@
+pub mod Answering
+pub mod Asking
+pub mod Books
+pub mod Desks
 pub mod Forms
 pub mod Making
 pub mod Piles

@@ -11,12 +11,14 @@ mod damage;
 mod dates;
 mod pile;
 mod script;
+mod season;
 
 fn show_task(rt: &impl Print) -> io::Result<()> {
     println!(rt; "Vervainstair: clock corrections in persistent memory")?;
     dates::show(rt)?;
     correction::show(rt)?;
-    damage::show(rt)
+    damage::show(rt)?;
+    season::show(rt)
 }
 
 fn main(rt: HostRuntime) -> io::Result<()> {

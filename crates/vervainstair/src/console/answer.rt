@@ -1,10 +1,16 @@
 // What a line is answered.
+ghost use Rattle.std.specs.Prelude.{◌≡◌};
+ghost use Rattle.leaves.specs.Opening.{plain};
+ghost use Rattle.vervainstair.specs.declared.console.answer.Trouble.TheVariants.{Refused, Halted, Wrong as IsWrong};
+
 use crate::script::wrong::Wrong;
 use index::record::{Holds, NodeRecord};
 use leaves::leaf::Pair;
 use leaves::open::Fault;
 use refusal::Refusal;
 use std::io::{self, Write};
+use tree::logbook::carry::Halt;
+use tree::logbook::turn::Removed;
 
 // How a logbook stands.
 #[derive(Clone, Copy)]
@@ -19,6 +25,8 @@ pub enum Standing {
 pub enum Told {
     Nothing,
     Number(u64),
+    Steps(u64),
+    Removed(Removed),
     Endless,
     State(Standing),
     Pair(Pair),
@@ -29,22 +37,38 @@ pub enum Told {
 #[derive(Clone, Copy)]
 pub enum Trouble {
     Refused(Fault),
+    // a put, change or remove that was not granted
+    Halted(Halt),
     Wrong(Wrong),
 }
 
 impl From<Fault> for Trouble {
+    ghost from_gives = { λ fault t. t ≡ Refused fault };
+
     fn from(fault: Fault) -> Self {
         Trouble::Refused(fault)
     }
 }
 
 impl From<Refusal> for Trouble {
+    ghost from_gives = { λ refusal t. t ≡ Refused (plain refusal) };
+
     fn from(refusal: Refusal) -> Self {
         Trouble::Refused(refusal.into())
     }
 }
 
+impl From<Halt> for Trouble {
+    ghost from_gives = { λ halt t. t ≡ Halted halt };
+
+    fn from(halt: Halt) -> Self {
+        Trouble::Halted(halt)
+    }
+}
+
 impl From<Wrong> for Trouble {
+    ghost from_gives = { λ wrong t. t ≡ IsWrong wrong };
+
     fn from(wrong: Wrong) -> Self {
         Trouble::Wrong(wrong)
     }
@@ -58,6 +82,7 @@ pub fn write_answer<W: Write>(
     match answer {
         Ok(told) => write_told(out, told),
         Err(Trouble::Refused(fault)) => write_refused(out, fault),
+        Err(Trouble::Halted(halt)) => write_halted(out, halt),
         Err(Trouble::Wrong(wrong)) => writeln!(out, "error line {line}: {wrong}"),
     }
 }
@@ -66,6 +91,11 @@ fn write_told<W: Write>(out: &mut W, told: &Told) -> io::Result<()> {
     match told {
         Told::Nothing => writeln!(out, "ok"),
         Told::Number(number) => writeln!(out, "ok {number}"),
+        Told::Steps(steps) => writeln!(out, "ok steps {steps}"),
+        Told::Removed(removed) => {
+            let Removed { reading, steps } = *removed;
+            writeln!(out, "ok reading {reading} steps {steps}")
+        }
         Told::Endless => writeln!(out, "ok endless"),
         Told::State(Standing::Blank) => writeln!(out, "ok blank"),
         Told::State(Standing::Open) => writeln!(out, "ok open"),
@@ -89,6 +119,15 @@ fn write_refused<W: Write>(out: &mut W, fault: &Fault) -> io::Result<()> {
     match refusal {
         Refusal::BadLink => writeln!(out, "refused {refusal} {leaf}"),
         Refusal::BadLeaf => writeln!(out, "refused {refusal} {leaf} {slot}"),
+        _ => writeln!(out, "refused {refusal}"),
+    }
+}
+
+// Where the memory or a dark logbook refused, the steps are told.
+fn write_halted<W: Write>(out: &mut W, halt: &Halt) -> io::Result<()> {
+    let Halt { refusal, steps } = *halt;
+    match refusal {
+        Refusal::NoPower | Refusal::Unsettled => writeln!(out, "refused {refusal} steps {steps}"),
         _ => writeln!(out, "refused {refusal}"),
     }
 }

@@ -1,4 +1,10 @@
 // Playing a script, line by line.
+ghost use Rattle.std.specs.Prelude.{◌≡◌};
+ghost use Rattle.fixed_vec.specs.Items.{items};
+ghost use Rattle.vervainstair.specs.Books.{IsNew, kind_of, pile_of};
+ghost use Rattle.vervainstair.specs.Desks.{Sets};
+ghost use Rattle.vervainstair.specs.Piles.{pile_words, under};
+
 use super::answer::{Told, Trouble, write_answer, write_dump};
 use super::book::Book;
 use super::runs::{Runs, make_runs};
@@ -37,25 +43,35 @@ impl<B: Probe> Desk<B> {
         Desk { book, layers }
     }
 
-    // A new blank logbook: over one more layer, for another kind of key, or only so.
-    fn set(self, setting: Setting, kind: &mut Option<Kind>) -> (Self, Result<Told, Trouble>) {
-        let Desk { book, mut layers } = self;
-        match setting {
-            Setting::Layer(sort) => {
-                if layers.push(sort).is_err() {
-                    return (Desk { book, layers }, Err(Wrong::FourthLayer.into()));
-                }
-            }
-            Setting::Kind(named) => *kind = Some(named),
-            Setting::Anew => {
-                if kind.is_none() {
-                    return (Desk { book, layers }, Err(Wrong::NoKind.into()));
-                }
-            }
-        }
+    // A new blank logbook over the same make, under these layers.
+    fn over(book: Book<B>, layers: FixedVec<Sort, 3>, kind: Option<Kind>) -> Self
+        ensures layers { result.layers ≡ layers }
+        ensures pile { pile_words B.Memory.meaning (pile_of result.book) ≡ under (items layers) (B.Memory.meaning (pile_of book).below.below.below) }
+        ensures kind { kind_of result.book ≡ kind }
+        ensures blank { IsNew result.book }
+    {
         let words = unpile(book.release());
-        let book = Book::new(piled(words, layers.as_slice()), *kind);
-        (Desk { book, layers }, Ok(Told::Nothing))
+        let book = Book::new(piled(words, layers.as_slice()), kind);
+        Desk { book, layers }
+    }
+
+    // A new blank logbook: over one more layer, for another kind of key, or only so.
+    fn set(self, setting: Setting, kind: &mut Option<Kind>) -> (Self, Result<Told, Trouble>)
+        ensures { Sets B.Memory.meaning self result.0 kind.old kind.new result.1 setting }
+    {
+        let Desk { book, mut layers } = self;
+        match (setting, *kind) {
+            (Setting::Layer(sort), _) => match layers.push(sort) {
+                Ok(()) => (Desk::over(book, layers, *kind), Ok(Told::Nothing)),
+                Err(_) => (Desk { book, layers }, Err(Wrong::FourthLayer.into())),
+            },
+            (Setting::Kind(named), _) => {
+                *kind = Some(named);
+                (Desk::over(book, layers, *kind), Ok(Told::Nothing))
+            }
+            (Setting::Anew, None) => (Desk { book, layers }, Err(Wrong::NoKind.into())),
+            (Setting::Anew, named) => (Desk::over(book, layers, named), Ok(Told::Nothing)),
+        }
     }
 }
 

@@ -42,6 +42,9 @@ pub enum Probing {
 pub enum Call {
     Format { leaves: u64 },
     Open,
+    Put { key: Fields, reading: u64 },
+    Change { key: Fields, reading: u64 },
+    Remove(Fields),
     Find(Fields),
     Next(Fields),
     Pairs,

@@ -1,7 +1,7 @@
 // From the words of a line to what the line asks for.
 ghost use Rattle.std.specs.Prelude.{◌⊎◌, IsOk};
 ghost use Rattle.std.specs.Result.{OkIff};
-ghost use Rattle.vervainstair.specs.Forms.{IsNumber, CallForm, MemoryForm, ProbingForm, ReadsCall, ReadsMemory, ReadsProbing, ReadsSetting, SettingForm, number_of};
+ghost use Rattle.vervainstair.specs.Forms.{IsNumber, CallForm, DeedForm, MemoryForm, ProbingForm, ReadsCall, ReadsDeed, ReadsMemory, ReadsProbing, ReadsSetting, SettingForm, number_of};
 ghost use Rattle.vervainstair.specs.declared.script.line.Fields.TheVariants.{Stamp as StampFields, Port as PortFields};
 ghost use Rattle.vervainstair.specs.declared.script.line.Line.TheVariants.{Memory, Setting as SettingLine, Probing as ProbingLine, Call as CallLine};
 
@@ -91,6 +91,34 @@ fn port(identity: &str, port: &str) -> Result<Fields, Wrong>
     })
 }
 
+// A call that changes the book.
+fn deed(words: &[&str]) -> Result<Call, Wrong>
+    ensures reads { ReadsDeed words.now result (λ c. c) }
+    ensures others { IsOk result → DeedForm words.now }
+{
+    match *words {
+        ["put", year, day, ms, reading] => Ok(Call::Put {
+            key: stamp(year, day, ms)?,
+            reading: number(reading)?,
+        }),
+        ["put", identity, port_number, reading] => Ok(Call::Put {
+            key: port(identity, port_number)?,
+            reading: number(reading)?,
+        }),
+        ["change", year, day, ms, reading] => Ok(Call::Change {
+            key: stamp(year, day, ms)?,
+            reading: number(reading)?,
+        }),
+        ["change", identity, port_number, reading] => Ok(Call::Change {
+            key: port(identity, port_number)?,
+            reading: number(reading)?,
+        }),
+        ["remove", year, day, ms] => Ok(Call::Remove(stamp(year, day, ms)?)),
+        ["remove", identity, number] => Ok(Call::Remove(port(identity, number)?)),
+        _ => Err(Wrong::KeyForm),
+    }
+}
+
 fn call(words: &[&str]) -> Result<Call, Wrong>
     ensures reads { ReadsCall words.now result (λ c. c) }
     ensures others { IsOk result → CallForm words.now }
@@ -120,13 +148,15 @@ pub fn line(words: &[&str]) -> Result<Line, Wrong>
     ensures memory { ReadsMemory words.now result Memory }
     ensures setting { ReadsSetting words.now result SettingLine }
     ensures probing { ReadsProbing words.now result ProbingLine }
+    ensures deed { ReadsDeed words.now result CallLine }
     ensures call { ReadsCall words.now result CallLine }
-    ensures others { IsOk result → MemoryForm words.now ⊎ (SettingForm words.now ⊎ (ProbingForm words.now ⊎ CallForm words.now)) }
+    ensures others { IsOk result → MemoryForm words.now ⊎ (SettingForm words.now ⊎ (ProbingForm words.now ⊎ (DeedForm words.now ⊎ CallForm words.now))) }
 {
     match *words {
         ["memory", ..] => Ok(Line::Memory(memory(words)?)),
         ["margin" | "rotation" | "kind" | "make", ..] => Ok(Line::Setting(setting(words)?)),
         ["steps" | "poke" | "dump", ..] => Ok(Line::Probing(probing(words)?)),
+        ["put" | "change" | "remove", ..] => Ok(Line::Call(deed(words)?)),
         _ => Ok(Line::Call(call(words)?)),
     }
 }

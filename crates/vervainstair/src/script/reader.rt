@@ -1,4 +1,7 @@
 // The lines of a script, read one after the other.
+ghost use Rattle.std.specs.Prelude.{IfOk};
+ghost use Rattle.vervainstair.specs.Asking.{Asks};
+
 use super::line::Line;
 use super::parse;
 use super::wrong::Wrong;
@@ -16,14 +19,16 @@ pub struct Script<R> {
 }
 
 // What a line's octets ask for; nothing for a blank line and a comment.
-fn asked(alloc: Global, bytes: &[u8]) -> Result<Option<Result<Line, Wrong>>, AllocError> {
+fn asked(alloc: Global, bytes: &[u8]) -> Result<Option<Result<Line, Wrong>>, AllocError>
+    ensures { IfOk result (Asks bytes.now) }
+{
     if bytes.starts_with(b"#") {
         return Ok(None);
     }
     let Ok(text) = str::from_utf8(bytes) else {
         return Ok(Some(Err(Wrong::NotText)));
     };
-    let words: Vec<&str> = text.split_ascii_whitespace().collect(alloc)?;
+    let words: Vec<&str> = text.split_whitespace().collect(alloc)?;
     if words.is_empty() {
         return Ok(None);
     }

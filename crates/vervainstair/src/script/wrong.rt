@@ -30,7 +30,8 @@ impl Wrong {
                 "write margin LINES, rotation LINES, kind stamp, kind port or make",
             Wrong::ProbingForm => "write steps, poke INDEX WORD or dump",
             Wrong::CallForm => "write format LEAVES, open, pairs, node N or state",
-            Wrong::KeyForm => "write a key as YEAR DAY MILLISECOND or IDENTITY PORT",
+            Wrong::KeyForm =>
+                "write a key as YEAR DAY MILLISECOND or IDENTITY PORT, and a reading with put and change",
             Wrong::NotANumber => "a number is decimal digits and nothing else",
             Wrong::TooGreat => "a number is at most 18446744073709551615",
             Wrong::NoMemory => "no memory is named yet",
