@@ -1,9 +1,9 @@
 -- A call of a logbook, a question and a cut come to what a history tells.
-use Rattle.std.proofs.Common.{◌≡◌, ℕ, ◌<◌, cond, List, length, drop, ltb, is_ok, Ok, Err, Option, Result, None, Some, sym, refl, ap, ◌∙◌, subst, ⊎_elim, arith}
+use Rattle.std.proofs.Common.{◌≡◌, ℕ, ◌<◌, Bool, true, false, if◌then◌else◌, nat_lt, cond, List, length, drop, ltb, is_ok, Ok, Err, Option, Result, None, Some, sym, refl, ap, ◌∙◌, subst, ⊎_elim, arith}
 use Rattle.std.proofs.lemmas.List.{length-map}
 use Rattle.std.proofs.lemmas.Bool.{cases_Bool, cond-true, cond-false}
 use Rattle.refusal.specs.declared.Refusal.{Refusal}
-use Rattle.refusal.specs.declared.Refusal.TheVariants.{WrongLength}
+use Rattle.refusal.specs.declared.Refusal.TheVariants.{Outside, WrongLength}
 use Rattle.keys.specs.Kind.{Kind}
 use Rattle.keys.specs.InWords.{WordKind, WordOrdered, in_words}
 use Rattle.memory.specs.Meaning.{Words, after_settle, cut as cut_words, odd_at, renewed, settle_answer}
@@ -23,7 +23,9 @@ use Rattle.histories.specs.PlainBook.{find, next as next_after, pair_or, pairs a
 use Rattle.histories.specs.Outcome.{State, Logbook, blank, in_use, dark, by_plan as plan_outcome, found as found_logbook, outcome, outcome_in, reply, reply_in, wrote as wrote_outcome}
 use Rattle.histories.specs.Histories.{Event, cut as cut_event}
 use Rattle.index.specs.declared.node.Entry.{Entry}
+use Rattle.index.specs.declared.record.NodeRecord.{NodeRecord}
 use Rattle.index.specs.declared.table.Index.{Index}
+use Rattle.index.specs.Showing.{Telling, node_told, told as shown}
 use Rattle.index.specs.Meaning.{grouped, listed}
 use Rattle.index.specs.Nodes.{bounds, numbers}
 use Rattle.index.specs.Search.{concat, front}
@@ -35,16 +37,17 @@ use Rattle.tree.specs.declared.logbook.State.TheVariants.{Blank, Open, Dark}
 use Rattle.tree.specs.Shape as shape
 use Rattle.tree.specs.Shape.{Shape, found_shape, open_told, paired, shape_of, tops}
 use Rattle.tree.specs.Sound.{Sound}
-use Rattle.tree.specs.Telling.{find_answer, found, next_answer, paired_or, pairs_answer}
+use Rattle.tree.specs.Telling.{asked as asked_of, find_answer, found, next_answer, node_after, paired_or, pairs_answer}
 use Rattle.tree.specs.Cutting.{cut_answer, cut_shape, cut_taken}
 use Rattle.tree.specs.Turning.{Ending, RemovalEnds, by_plan, call_ending, ending, number_for, removal, tree_of, wrote, regrouped}
 use Rattle.tree.proofs.OpenLaws.{bounds_paired, concat_singles, front_tops, length_tops, numbers_paired}
 use Rattle.tree.proofs.KeptLaws.{number_there}
 use Rattle.tree.proofs.RegroupLaws.{Regroups, plan_regroups}
-use Rattle.session.specs.Hearing.{heard_cut, heard_found, heard_next, heard_number, heard_opened, heard_removed, heard_steps}
-use Rattle.session.specs.Playing.{Happened, onward, opened_told, removed_told, replied, steps_told}
+use Rattle.session.specs.Hearing.{NodeHeard, heard_cut, heard_found, heard_next, heard_number, heard_opened, heard_removed, heard_steps}
+use Rattle.session.specs.Playing.{Happened, NodeShown, NodeTold, onward, opened_told, removed_told, replied, steps_told}
 use Rattle.session.specs.declared.act.Act.TheVariants.{Cut}
 use Rattle.session.specs.declared.act.Told.{Told}
+use Rattle.session.specs.declared.act.Told.TheVariants as told
 use Rattle.session.specs.Sessions.{Like, Rightly, Same}
 
 -- Which state has a shape.
@@ -187,6 +190,42 @@ module _ (o : WordKind) (m : Words) (bk : Book) (tk : Option ℕ) (s : State) (s
 
   pub pairs_told : heard_number (pairs_answer o m.live bk) ≡ replied (reply o s how_many)
   pairs_told = sym (ap (λ v. replied (reply_in o v s.logbook how_many)) same.memory ∙ (asked_in o m bk tk s.logbook (0, 0) same.logbook).2)
+
+-- A node that is asked for.
+abbrev granted : Result (Unit {0}) Refusal
+granted = Ok tt
+
+abbrev not_for : Refusal → Result (Unit {0}) Refusal
+not_for e = Err e
+
+shown_ok : (above : Bool) (gs : List (List Entry)) (i : ℕ) (r : NodeRecord) (before : Telling) → (if above then Err Outside else Ok tt) ≡ granted → shown r ≡ cond above before (node_told gs i) → NodeShown above gs i (told.Node r)
+shown_ok true gs i r before is filled = let z : ◌≡◌ {A = ℕ} 0 1 = cc in absurd (omega arith)
+shown_ok false gs i r before is filled = (r, refl, filled)
+
+shown_err : (above : Bool) (gs : List (List Entry)) (i : ℕ) (e : Refusal) → (if above then Err Outside else Ok tt) ≡ not_for e → NodeShown above gs i (told.Refused e)
+shown_err true gs i e is = cc
+shown_err false gs i e is = let z : ◌≡◌ {A = ℕ} 0 1 = cc in absurd (omega arith)
+
+pub node_ok : (bk : Book) (i : ℕ) (r : NodeRecord) (before : Telling) → asked_of bk (if nat_lt 90 i then Err Outside else Ok tt) ≡ granted → shown r ≡ node_after bk i before → NodeHeard bk i (told.Node r)
+node_ok Blank i r before is filled = let z : ◌≡◌ {A = ℕ} 0 1 = cc in absurd (omega arith)
+node_ok (Open x) i r before is filled = shown_ok (nat_lt 90 i) (grouped x) i r before is filled
+node_ok Dark i r before is filled = let z : ◌≡◌ {A = ℕ} 0 1 = cc in absurd (omega arith)
+
+pub node_err : (bk : Book) (i : ℕ) (e : Refusal) → asked_of bk (if nat_lt 90 i then Err Outside else Ok tt) ≡ not_for e → NodeHeard bk i (told.Refused e)
+node_err Blank i e is = cc
+node_err (Open x) i e is = shown_err (nat_lt 90 i) (grouped x) i e is
+node_err Dark i e is = cc
+
+pub node_told_in : (bk : Book) (tk : Option ℕ) (l : Logbook) (i : ℕ) (t : Told) → Like bk tk l → NodeHeard bk i t → NodeTold l i t
+node_told_in Blank tk blank i t like heard = heard
+node_told_in Dark tk dark i t like heard = heard
+node_told_in (Open x) tk (in_use q) i t like heard = (grouped x, ap (λ (z : Tree). z.leaves) like, ap (λ (z : Tree). z.bounds) like, heard)
+node_told_in Blank tk (in_use q) i t like heard = absurd like
+node_told_in Blank tk dark i t like heard = absurd like
+node_told_in Dark tk (in_use q) i t like heard = absurd like
+node_told_in Dark tk blank i t like heard = absurd like
+node_told_in (Open x) tk blank i t like heard = absurd like
+node_told_in (Open x) tk dark i t like heard = absurd like
 
 -- A cut.
 opened_like : (o : WordKind) (words : List ℕ) (r : Result (List ℕ) Fault) (b : Book) → shape_of b ≡ found_shape o words r → Like b None (found_logbook o words r)

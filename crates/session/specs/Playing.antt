@@ -1,20 +1,25 @@
 -- What comes of a list of calls and cuts, and what is told of it.
-use Rattle.std.specs.Prelude.{◌≡◌, ℕ, List, [], ◌∷◌, drop, Some, None, Ok, Err, Option, Result}
+use Rattle.std.specs.Prelude.{◌≡◌, ℕ, Bool, true, false, List, [], ◌∷◌, drop, Some, None, Ok, Err, Option, Result, nat_lt}
 use Rattle.std.specs.Option.{unwrap_or}
 use Rattle.refusal.specs.declared.Refusal.{Refusal}
-use Rattle.refusal.specs.declared.Refusal.TheVariants.{WrongLength}
+use Rattle.refusal.specs.declared.Refusal.TheVariants.{Blank, NoPower, Outside, WrongLength}
 use Rattle.keys.specs.Kind.{Kind}
 use Rattle.keys.specs.InWords.{in_words}
 use Rattle.memory.specs.Meaning.{Words, odd_at, picked, renewed}
 use Rattle.leaves.specs.declared.open.Fault.{Fault}
 use Rattle.leaves.specs.Opening.{open_answer}
+use Rattle.index.specs.declared.node.Entry.{Entry}
+use Rattle.index.specs.declared.record.NodeRecord.{NodeRecord}
+use Rattle.index.specs.Nodes.{bounds, numbers}
+use Rattle.index.specs.Search.{concat, front}
+use Rattle.index.specs.Showing.{node_told, told as shown}
 use Rattle.plans.specs.declared.deed.Deed.TheVariants as deed
 use Rattle.plans.specs.Told.{by_rule}
 use Rattle.histories.specs.PlainBook.{find, next as next_after, pairs, Reply, reading, pair, number, refused}
-use Rattle.histories.specs.Outcome.{State}
+use Rattle.histories.specs.Outcome.{State, Logbook, blank, in_use, dark}
 use Rattle.histories.specs.Histories.{Event, called, asked, cut, after}
 use Rattle.session.specs.declared.act.Act.{Act}
-use Rattle.session.specs.declared.act.Act.TheVariants.{Put, Change, Remove, Find, Next, Pairs, Cut}
+use Rattle.session.specs.declared.act.Act.TheVariants.{Put, Change, Remove, Find, Next, Pairs, Node, Cut}
 use Rattle.session.specs.declared.act.Told.{Told}
 use Rattle.session.specs.declared.act.Told.TheVariants as told
 
@@ -39,11 +44,23 @@ abbrev pub opened_told : Result (List ℕ) Fault → Told
 opened_told (Ok ks) = told.Opened
 opened_told (Err e) = told.NotOpened e
 
+-- What is told of node i of an index of such groups: there is none above 90.
+abbrev pub NodeShown : Bool → List (List Entry) → ℕ → Told → Type 0
+NodeShown true gs i t = t ≡ told.Refused Outside
+NodeShown false gs i t = (r : NodeRecord) × (t ≡ told.Node r) × (shown r ≡ node_told gs i)
+
+-- What is told of node i of a logbook: its leaves and bounds in groups, in their order.
+abbrev pub NodeTold : Logbook → ℕ → Told → Type 0
+NodeTold blank i t = t ≡ told.Refused Blank
+NodeTold (in_use tree) i t =
+    (gs : List (List Entry)) × (numbers (concat gs) ≡ tree.leaves) × (front (bounds (concat gs)) ≡ tree.bounds) × NodeShown (nat_lt 90 i) gs i t
+NodeTold dark i t = t ≡ told.Refused NoPower
+
 -- A cut that keeps the live word where the choice run is odd at the word's place in it, else the firm one.
 abbrev pub CutBy : Words → List ℕ → ℕ → List ℕ → Type 0
 CutBy m choice steps words = (place : ℕ → ℕ) × (words ≡ picked (λ i. odd_at choice (place i)) m.live m.firm)
 
--- What comes of an act in a state: a call, a question or a cut happens, and this is told of it. A cut whose choice run is too short does not happen.
+-- What comes of an act in a state: a call, a question or a cut happens, and this is told of it. A node that is asked for is no event, and a cut whose choice run is too short does not happen.
 abbrev pub Happened : {K : Type 0} → Kind K → List ℕ → State → Act K → Option Event → Told → Type 0
 Happened k choices s (Put key r) (Some (called d a e)) t = (d ≡ deed.Put (k.form key) r) × (t ≡ steps_told a.result a.steps)
 Happened k choices s (Change key r) (Some (called d a e)) t = (d ≡ deed.Change (k.form key) r) × (t ≡ steps_told a.result a.steps)
@@ -51,6 +68,7 @@ Happened k choices s (Remove key) (Some (called d a e)) t = (d ≡ deed.Remove (
 Happened k choices s (Find key) (Some (asked q r)) t = (q ≡ find (k.form key)) × (t ≡ replied r)
 Happened k choices s (Next key) (Some (asked q r)) t = (q ≡ next_after (k.form key)) × (t ≡ replied r)
 Happened k choices s Pairs (Some (asked q r)) t = (q ≡ pairs) × (t ≡ replied r)
+Happened k choices s (Node i) None t = NodeTold s.logbook i t
 Happened k choices s (Cut from steps) (Some (cut words power)) t =
     CutBy s.memory (drop from choices) steps words × (power ≡ renewed s.memory.power steps) × (t ≡ opened_told (open_answer (in_words k) words))
 Happened k choices s (Cut from steps) None t = t ≡ told.Refused WrongLength

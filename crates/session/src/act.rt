@@ -1,4 +1,5 @@
 // What is asked of a logbook in a list, and what it tells.
+use index::record::NodeRecord;
 use leaves::leaf::Pair;
 use leaves::open::Fault;
 use refusal::Refusal;
@@ -12,6 +13,7 @@ pub enum Act<K> {
     Find { key: K },
     Next { key: K },
     Pairs,
+    Node { number: usize },
     Cut { from: usize, steps: u64 },
 }
 
@@ -26,6 +28,7 @@ pub enum Told {
     Reading { reading: u64 },
     Next { pair: Pair },
     Number { number: usize },
+    Node { record: NodeRecord },
     Refused { refusal: Refusal },
     Opened,
     NotOpened { fault: Fault },

@@ -2,7 +2,7 @@
 ghost use Rattle.std.specs.Prelude.{◌≡◌, ◌⊎◌, min, drop, length, take, Ok};
 ghost use Rattle.histories.specs.Law.{FormatGranted};
 ghost use Rattle.histories.specs.Outcome.{State};
-ghost use Rattle.session.specs.Hearing.{heard_cut, heard_found, heard_next, heard_number, heard_removed, heard_steps};
+ghost use Rattle.session.specs.Hearing.{NodeHeard, heard_cut, heard_found, heard_next, heard_number, heard_removed, heard_steps};
 ghost use Rattle.session.specs.Sessions.{Carried, CarriedAll, Same, Session};
 ghost use Rattle.keys.specs.InWords.{in_words};
 ghost use Rattle.tree.specs.Formatting.{format_run};
@@ -10,10 +10,11 @@ ghost use Rattle.tree.specs.Sound.{Sound};
 ghost use Rattle.tree.specs.declared.logbook.State.TheVariants.{Blank};
 
 use crate::act::{Act, Told};
+use index::record::NodeRecord;
 use keys::Key;
 use leaves::leaf::Pair;
 use leaves::open::Fault;
-use memory::Settle;
+use memory::{Memory, Settle};
 use refusal::Refusal;
 use tree::logbook::Logbook;
 use tree::logbook::carry::Halt;
@@ -64,6 +65,16 @@ fn number(answer: Result<usize, Refusal>) -> Told
     }
 }
 
+fn node<K: Key, M: Memory>(logbook: &Logbook<K, M>, number: usize) -> Told
+    ensures { NodeHeard logbook.now.state number result }
+{
+    let mut record = NodeRecord::new();
+    match logbook.node(number, &mut record) {
+        Ok(()) => Told::Node { record },
+        Err(refusal) => Told::Refused { refusal },
+    }
+}
+
 fn opened(answer: Result<Result<(), Fault>, Refusal>) -> Told
     ensures { result ≡ heard_cut answer }
 {
@@ -92,6 +103,7 @@ fn carry<K: Key, M: Settle>(logbook: &mut Logbook<K, M>, act: &Act<K>, choices: 
         Act::Find { key } => found(logbook.find(key)),
         Act::Next { key } => next(logbook.next(key)),
         Act::Pairs => number(logbook.pairs()),
+        Act::Node { number } => node(logbook, *number),
         Act::Cut { from, steps } => opened(logbook.cut(choices_from(choices, *from), *steps)),
     }
 }

@@ -1,4 +1,4 @@
-use Rattle.std.proofs.Common.{Some, refl, sym, ap, ◌∙◌}
+use Rattle.std.proofs.Common.{None, Some, refl, sym, ap, ◌∙◌}
 use Rattle.keys.specs.InWords.{in_words}
 use Rattle.keys.proofs.WordLaws.{in_words_ordered, valid_of_keys}
 use Rattle.plans.specs.declared.deed.Deed.TheVariants as deed
@@ -8,7 +8,7 @@ use Rattle.histories.specs.Outcome.{outcome, reply}
 use Rattle.histories.specs.Histories.{asked, called}
 use Rattle.tree.specs.Turning.{call_ending}
 use Rattle.session.specs.Hearing.{heard_found, heard_next, heard_number, heard_removed}
-use Rattle.session.proofs.CarryLaws.{cut_told, deed_told, ends_so, find_told, next_told, pairs_told}
+use Rattle.session.proofs.CarryLaws.{cut_told, deed_told, ends_so, find_told, next_told, node_told_in, pairs_told}
 use Rattle.session.proofs.play.carry.Goals as goal
 
 pub returns-in-Put : goal.returns-in-Put
@@ -94,6 +94,15 @@ returns-in-Pairs g c s same sound =
       same = record { memory = same.memory ∙ sym c.pairs.ensures.same; logbook = rw (c.pairs.ensures.state, c.pairs.ensures.taken) same.logbook };
       sound = rw (c.pairs.ensures.same, c.pairs.ensures.state) sound;
     }
+
+pub returns-in-Node : goal.returns-in-Node
+returns-in-Node g c s same sound = record {
+  event = None;
+  rightly = tt;
+  happened = rw c.in-Node.is (node_told_in c.args.logbook.now.state c.args.logbook.now.taken s.logbook c.in-Node.number c.node.result same.logbook c.node.ensures);
+  same = same;
+  sound = sound;
+}
 
 pub returns-in-Cut : goal.returns-in-Cut
 returns-in-Cut g c s same sound =
