@@ -1,6 +1,7 @@
 -- A call of a logbook, a question and a cut come to what a history tells.
-use Rattle.std.proofs.Common.{◌≡◌, ℕ, ◌<◌, Bool, true, false, if◌then◌else◌, nat_lt, cond, List, length, drop, ltb, is_ok, Ok, Err, Option, Result, None, Some, sym, refl, ap, ◌∙◌, subst, ⊎_elim, arith}
+use Rattle.std.proofs.Common.{◌≡◌, ℕ, ◌<◌, ◌≤◌, Bool, true, false, if◌then◌else◌, nat_lt, cond, List, length, drop, ltb, is_ok, Ok, Err, Option, Result, None, Some, sym, refl, ap, ◌∙◌, subst, ⊎_elim, arith}
 use Rattle.std.proofs.lemmas.List.{length-map}
+use Rattle.std.proofs.lemmas.Bool.Decides.{nat_tests}
 use Rattle.std.proofs.lemmas.Bool.{cases_Bool, cond-true, cond-false}
 use Rattle.refusal.specs.declared.Refusal.{Refusal}
 use Rattle.refusal.specs.declared.Refusal.TheVariants.{Outside, WrongLength}
@@ -252,14 +253,21 @@ like_shape Dark tk blank b tk' like e t = absurd like
 like_shape (Open x) tk blank b tk' like e t = absurd like
 like_shape (Open x) tk dark b tk' like e t = absurd like
 
+-- What the test of a choice run's length says.
+short_by : (n m : ℕ) → ltb n m ≡ true → n < m
+short_by n m e = grind (arith, nat_tests)
+
+long_by : (n m : ℕ) → ltb n m ≡ false → m ≤ n
+long_by n m e = grind (arith, nat_tests)
+
 -- What came of a cut.
-pub record CutTold {K : Type 0} (k : Kind K) (choices : List ℕ) (s : State) (from steps : ℕ) (t : Told) (m' : Words) (b : Book) (tk' : Option ℕ) : Type 0 where
+pub record CutTold {K : Type 0} (k : Kind K) (cuts : Words → ℕ → (ℕ → ℕ) → Type 0) (choices : List ℕ) (s : State) (from steps : ℕ) (t : Told) (m' : Words) (b : Book) (tk' : Option ℕ) : Type 0 where
   pub event : Option Event
   pub rightly : Rightly k s event
-  pub happened : Happened k choices s (Cut from steps) event t
+  pub happened : Happened k cuts choices s (Cut from steps) event t
   pub same : Same m' b tk' (onward k s event)
 
-module _ {K : Type 0} (k : Kind K) (choices : List ℕ) (from steps : ℕ) (s : State) (bk : Book) (tk : Option ℕ) (like : Like bk tk s.logbook) (ext : ℕ) (place : ℕ → ℕ)
+module _ {K : Type 0} (k : Kind K) (cuts : Words → ℕ → (ℕ → ℕ) → Type 0) (choices : List ℕ) (from steps : ℕ) (s : State) (bk : Book) (tk : Option ℕ) (like : Like bk tk s.logbook) (ext : ℕ) (place : ℕ → ℕ) (cut_so : cuts s.memory ext place)
     (r : Result (Result (Unit {0}) Fault) Refusal) (m' : Words) (b : Book) (tk' : Option ℕ) where
   abbrev choice : List ℕ
   choice = drop from choices
@@ -268,7 +276,7 @@ module _ {K : Type 0} (k : Kind K) (choices : List ℕ) (from steps : ℕ) (s : 
   later = after_settle s.memory ext place choice steps
 
   cut_in : r ≡ cut_answer (in_words k) (settle_answer ext choice) later.live → m' ≡ later → shape_of b ≡ cut_shape (in_words k) (settle_answer ext choice) later.live (shape_of bk) → tk' ≡ cut_taken (settle_answer ext choice) tk
-      → CutTold k choices s from steps (heard_cut r) m' b tk'
+      → CutTold k cuts choices s from steps (heard_cut r) m' b tk'
   cut_in answer memory state last =
       ⊎_elim
       (λ short.
@@ -278,7 +286,7 @@ module _ {K : Type 0} (k : Kind K) (choices : List ℕ) (from steps : ℕ) (s : 
       record {
         event = None;
         rightly = tt;
-        happened = ap heard_cut r_is;
+        happened = ((ext, place, cut_so, short_by (length choice) ext short), ap heard_cut r_is);
         same = record {
           memory = sym (memory ∙ stays);
           logbook = like_shape bk tk s.logbook b tk' like (state ∙ ap (λ a. cut_shape (in_words k) a later.live (shape_of bk)) e) (last ∙ ap (λ a. cut_taken a tk) e);
@@ -293,7 +301,7 @@ module _ {K : Type 0} (k : Kind K) (choices : List ℕ) (from steps : ℕ) (s : 
       record {
         event = Some (cut_event now.live (renewed s.memory.power steps));
         rightly = (λ i. odd_at choice (place i), refl);
-        happened = ((place, refl), refl, ap heard_cut r_is ∙ opening_heard (open_answer (in_words k) now.live));
+        happened = ((ext, place, cut_so, long_by (length choice) ext long, refl), refl, ap heard_cut r_is ∙ opening_heard (open_answer (in_words k) now.live));
         same = record {
           memory = sym (memory ∙ done);
           logbook = subst (λ l. Like b l (found_logbook (in_words k) now.live (open_answer (in_words k) now.live))) (sym (last ∙ ap (λ a. cut_taken a tk) e)) (opened_like (in_words k) now.live (open_answer (in_words k) now.live) b shaped);
@@ -301,14 +309,14 @@ module _ {K : Type 0} (k : Kind K) (choices : List ℕ) (from steps : ℕ) (s : 
       })
       (cases_Bool (ltb (length choice) ext))
 
-pub cut_told : {K : Type 0} (k : Kind K) (choices : List ℕ) (from steps : ℕ) (s : State) (m : Words) (bk : Book) (tk : Option ℕ) → Same m bk tk s → (ext : ℕ) (place : ℕ → ℕ)
+pub cut_told : {K : Type 0} (k : Kind K) (cuts : Words → ℕ → (ℕ → ℕ) → Type 0) (choices : List ℕ) (from steps : ℕ) (s : State) (m : Words) (bk : Book) (tk : Option ℕ) → Same m bk tk s → (ext : ℕ) (place : ℕ → ℕ) → cuts m ext place →
     (r : Result (Result (Unit {0}) Fault) Refusal) (m' : Words) (b : Book) (tk' : Option ℕ)
     → r ≡ cut_answer (in_words k) (settle_answer ext (drop from choices)) (after_settle m ext place (drop from choices) steps).live → m' ≡ after_settle m ext place (drop from choices) steps
     → shape_of b ≡ cut_shape (in_words k) (settle_answer ext (drop from choices)) (after_settle m ext place (drop from choices) steps).live (shape_of bk) → tk' ≡ cut_taken (settle_answer ext (drop from choices)) tk
-    → CutTold k choices s from steps (heard_cut r) m' b tk'
-cut_told k choices from steps s m bk tk same ext place r m' b tk' answer memory state last =
+    → CutTold k cuts choices s from steps (heard_cut r) m' b tk'
+cut_told k cuts choices from steps s m bk tk same ext place so r m' b tk' answer memory state last =
     let e = sym same.memory in
-    cut_in k choices from steps s bk tk same.logbook ext place r m' b tk'
+    cut_in k cuts choices from steps s bk tk same.logbook ext place (subst (λ w. cuts w ext place) e so) r m' b tk'
     (subst (λ w. r ≡ cut_answer (in_words k) (settle_answer ext (drop from choices)) (after_settle w ext place (drop from choices) steps).live) e answer)
     (subst (λ w. m' ≡ after_settle w ext place (drop from choices) steps) e memory)
     (subst (λ w. shape_of b ≡ cut_shape (in_words k) (settle_answer ext (drop from choices)) (after_settle w ext place (drop from choices) steps).live (shape_of bk)) e state) last
