@@ -4,7 +4,7 @@ use Rattle.std.specs.Iterator.{DrainsIf}
 use Rattle.std.specs.Str.{IsUtf8}
 use Rattle.std.specs.Str.Iter.{split_whitespace_rest, split_whitespace_steps}
 use Rattle.std.specs.declared.str.SplitWhitespace.{SplitWhitespace}
-use Rattle.vervainstair.specs.Forms.{Words, ReadsCall, ReadsDeed, ReadsMemory, ReadsProbing, ReadsSetting, CallForm, DeedForm, MemoryForm, ProbingForm, SettingForm}
+use Rattle.vervainstair.specs.Forms.{Words, ReadsCall, ReadsCut, ReadsDeed, ReadsMemory, ReadsProbing, ReadsSetting, CallForm, CutForm, DeedForm, MemoryForm, ProbingForm, SettingForm}
 use Rattle.vervainstair.specs.declared.script.line.Line.{Line}
 use Rattle.vervainstair.specs.declared.script.line.Line.TheVariants.{Memory, Setting, Probing, Call}
 use Rattle.vervainstair.specs.declared.script.wrong.Wrong.{Wrong}
@@ -17,7 +17,8 @@ pub record ReadsLine (ws : Words) (r : Result Line Wrong) : Type 0 where
   pub probing : ReadsProbing ws r Probing
   pub deed : ReadsDeed ws r Call
   pub call : ReadsCall ws r Call
-  pub others : IsOk r → MemoryForm ws ⊎ (SettingForm ws ⊎ (ProbingForm ws ⊎ (DeedForm ws ⊎ CallForm ws)))
+  pub cut : ReadsCut ws r
+  pub others : IsOk r → MemoryForm ws ⊎ (SettingForm ws ⊎ (ProbingForm ws ⊎ (DeedForm ws ⊎ (CutForm ws ⊎ CallForm ws))))
 
 -- The words of a text, between white space.
 abbrev pub IsWordsOf : List ℕ → Words → Type 0

@@ -1,5 +1,5 @@
 -- How each line of a script is written. A form has its name first, and so many words.
-use Rattle.std.specs.Prelude.{◌≡◌, ℕ, ◌+◌, ◌^◌, ◌<◌, ◌⊎◌, List, [], length, slice_index_or, codes, Result, Ok}
+use Rattle.std.specs.Prelude.{◌≡◌, ℕ, ◌+◌, ◌^◌, ◌≤◌, ◌<◌, ◌⊎◌, List, [], length, slice_index_or, codes, Result, Ok}
 use Rattle.std.specs.Borrow.{Bor}
 use Rattle.std.specs.Result.{OkIff}
 use Rattle.std.specs.Str.Parse.{IsNumeral, digits_value}
@@ -14,6 +14,9 @@ use Rattle.vervainstair.specs.declared.script.line.Probing.{Probing}
 use Rattle.vervainstair.specs.declared.script.line.Probing.TheVariants.{Steps, Poke, Dump}
 use Rattle.vervainstair.specs.declared.script.line.Call.{Call}
 use Rattle.vervainstair.specs.declared.script.line.Call.TheVariants.{Format, Open, Put, Change, Remove, Find, Next, Pairs, Node, State}
+use Rattle.vervainstair.specs.declared.script.line.Keeps.TheVariants.{Firm, Live, Mix}
+use Rattle.vervainstair.specs.declared.script.line.Line.{Line}
+use Rattle.vervainstair.specs.declared.script.line.Line.TheVariants.{Cut}
 use Rattle.vervainstair.specs.declared.script.wrong.Wrong.{Wrong}
 
 -- The words of a line, and the text of word i, which is empty past the end.
@@ -93,6 +96,23 @@ module _ {X : Type 0} (ws : Words) (r : Result X Wrong) where
     pub node : Takes₁ ws r (Form ws (codes "node") 2) 1 (λ n. call (Node n))
     pub state : Form ws (codes "state") 1 → r ≡ Ok (call State)
 
+-- A cut that keeps all words firm or all live, and one with a mix, of one word at least.
+abbrev pub CutAs : Words → List ℕ → Type 0
+CutAs ws keeps = Form ws (codes "cut") 3 × (word ws 2 ≡ keeps)
+
+abbrev pub CutMix : Words → Type 0
+CutMix ws = (4 ≤ length ws) × (word ws 0 ≡ codes "cut") × (word ws 2 ≡ codes "mix")
+
+-- The words from the fourth on are numbers.
+abbrev pub IsMix : Words → Type 0
+IsMix ws = (i : ℕ) → 3 ≤ i → i < length ws → IsNumber (word ws i)
+
+module _ (ws : Words) (r : Result Line Wrong) where
+  pub record ReadsCut : Type 0 where
+    pub firm : Takes₁ ws r (CutAs ws (codes "firm")) 1 (λ n. Cut n Firm)
+    pub live : Takes₁ ws r (CutAs ws (codes "live")) 1 (λ n. Cut n Live)
+    pub mix : CutMix ws → OkIff r (IsNumber (word ws 1) × IsMix ws) (Cut (number_of (word ws 1)) Mix)
+
 -- The forms that there are; no other line is a call.
 abbrev pub MemoryForm : Words → Type 0
 MemoryForm ws = Form₂ ws (codes "memory") (codes "through") 3 ⊎ Form₂ ws (codes "memory") (codes "buffered") 4
@@ -107,6 +127,9 @@ ProbingForm ws = Form ws (codes "steps") 1 ⊎ (Form ws (codes "poke") 3 ⊎ For
 abbrev pub DeedForm : Words → Type 0
 DeedForm ws = Form ws (codes "put") 5 ⊎ (Form ws (codes "put") 4 ⊎ (Form ws (codes "change") 5 ⊎ (Form ws (codes "change") 4
     ⊎ (Form ws (codes "remove") 4 ⊎ Form ws (codes "remove") 3))))
+
+abbrev pub CutForm : Words → Type 0
+CutForm ws = CutAs ws (codes "firm") ⊎ (CutAs ws (codes "live") ⊎ CutMix ws)
 
 abbrev pub CallForm : Words → Type 0
 CallForm ws = Form ws (codes "format") 2 ⊎ (Form ws (codes "open") 1 ⊎ (Form ws (codes "find") 4 ⊎ (Form ws (codes "find") 3

@@ -7,9 +7,9 @@ ghost use Rattle.vervainstair.specs.Piles.{pile_words, under};
 
 use super::answer::{Told, Trouble, write_answer, write_dump};
 use super::book::Book;
-use super::runs::{Runs, make_runs};
+use super::runs::{Runs, choice_run, make_runs};
 use crate::pile::{piled, unpile};
-use crate::script::line::{Kind, Line, Probing, Setting};
+use crate::script::line::{Keeps, Kind, Line, Probing, Setting};
 use crate::script::reader::Script;
 use crate::script::wrong::Wrong;
 use fixed_vec::FixedVec;
@@ -17,6 +17,7 @@ use layers::chosen::Sort;
 use makes::buffered::Buffered;
 use makes::probe::Probe;
 use makes::through::Through;
+use memory::Settle;
 use std::alloc::Global;
 use std::io::{self, BufRead, Write};
 
@@ -116,8 +117,28 @@ impl<R: BufRead, W: Write> Console<R, W> {
         }
     }
 
+    // A cut with a choice for each word of the memory at the bottom.
+    fn cut<B: Probe + Settle>(
+        &mut self,
+        book: &mut Book<B>,
+        steps: u64,
+        keeps: Keeps,
+    ) -> io::Result<()> {
+        let length = book.bottom().choices();
+        let choice = match keeps {
+            Keeps::Firm => choice_run(self.alloc, &[0], length)?,
+            Keeps::Live => choice_run(self.alloc, &[1], length)?,
+            Keeps::Mix => {
+                let mix = self.script.mix()?;
+                choice_run(self.alloc, mix.as_slice(), length)?
+            }
+        };
+        let answer = book.cut(choice.as_slice(), steps);
+        self.answer(&answer)
+    }
+
     // Plays the lines over one memory, up to the line that names another one, whose runs are told; nothing at the end of the script.
-    fn over<B: Probe + Drop>(&mut self, bottom: B) -> io::Result<Option<Runs>> {
+    fn over<B: Probe + Settle + Drop>(&mut self, bottom: B) -> io::Result<Option<Runs>> {
         let mut desk = Desk::new(bottom, self.kind);
         for _ in 0..u64::MAX {
             match self.script.next()? {
@@ -135,6 +156,7 @@ impl<R: BufRead, W: Write> Console<R, W> {
                     self.answer(&answer)?;
                 }
                 Some(Ok(Line::Probing(probing))) => self.probe(&mut desk.book, probing)?,
+                Some(Ok(Line::Cut { steps, keeps })) => self.cut(&mut desk.book, steps, keeps)?,
                 Some(Ok(Line::Call(call))) => {
                     let answer = desk.book.ask(call);
                     self.answer(&answer)?;

@@ -1,6 +1,6 @@
 // The runs of words that a memory is made over.
 ghost use Rattle.std.specs.Prelude.{◌≡◌, IfOk, replicate};
-ghost use Rattle.vervainstair.specs.Making.{IsMade};
+ghost use Rattle.vervainstair.specs.Making.{IsMade, IsRepeated};
 
 use crate::script::line::Make;
 use crate::script::wrong::Wrong;
@@ -30,6 +30,18 @@ fn zeros(alloc: Global, words: u64) -> Result<Vec<u64>, Wrong>
     }
     let run: Result<Vec<u64>, AllocError> = vec![in alloc; 0; words as usize];
     run.map_err(|_| Wrong::TooManyWords)
+}
+
+// A choice run: these words, repeated to a length.
+pub fn choice_run(alloc: Global, words: &[u64], length: usize) -> Result<Vec<u64>, AllocError>
+    ensures { IfOk result (λ run. IsRepeated words.now length run.items) }
+{
+    let mut run: Vec<u64> = vec![in alloc; 0; length]?;
+    let period = words.len().max(1);
+    for i in 0..run.len() {
+        run[i] = words.get(i % period).copied().unwrap_or(0);
+    }
+    Ok(run)
 }
 
 // The runs of a new memory; refused where they are not to be had.

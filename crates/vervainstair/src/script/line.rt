@@ -52,10 +52,19 @@ pub enum Call {
     State,
 }
 
+// Which words keep live at a cut: none, all, or those whose words of the line after `mix`, repeated, are odd.
+#[derive(Clone, Copy)]
+pub enum Keeps {
+    Firm,
+    Live,
+    Mix,
+}
+
 #[derive(Clone, Copy)]
 pub enum Line {
     Memory(Make),
     Setting(Setting),
     Probing(Probing),
     Call(Call),
+    Cut { steps: u64, keeps: Keeps },
 }

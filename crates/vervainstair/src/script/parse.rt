@@ -1,17 +1,18 @@
 // From the words of a line to what the line asks for.
 ghost use Rattle.std.specs.Prelude.{◌⊎◌, IsOk};
 ghost use Rattle.std.specs.Result.{OkIff};
-ghost use Rattle.vervainstair.specs.Forms.{IsNumber, CallForm, DeedForm, MemoryForm, ProbingForm, ReadsCall, ReadsDeed, ReadsMemory, ReadsProbing, ReadsSetting, SettingForm, number_of};
+ghost use Rattle.vervainstair.specs.Forms.{IsNumber, CallForm, CutForm, DeedForm, IsMix, MemoryForm, ProbingForm, ReadsCall, ReadsCut, ReadsDeed, ReadsMemory, ReadsProbing, ReadsSetting, SettingForm, number_of};
 ghost use Rattle.vervainstair.specs.declared.script.line.Fields.TheVariants.{Stamp as StampFields, Port as PortFields};
+ghost use Rattle.vervainstair.specs.declared.script.line.Keeps.TheVariants.{Mix};
 ghost use Rattle.vervainstair.specs.declared.script.line.Line.TheVariants.{Memory, Setting as SettingLine, Probing as ProbingLine, Call as CallLine};
 
-use super::line::{Call, Fields, Kind, Line, Make, Probing, Setting};
+use super::line::{Call, Fields, Keeps, Kind, Line, Make, Probing, Setting};
 use super::wrong::Wrong;
 use layers::chosen::Sort;
 use std::num::IntErrorKind;
 
 // A number in decimal digits; which error another word gets is left open.
-fn number(word: &str) -> Result<u64, Wrong>
+pub fn number(word: &str) -> Result<u64, Wrong>
     ensures { OkIff result (IsNumber word.now) (number_of word.now) }
 {
     if let [b'+', ..] = word.as_bytes() {
@@ -119,6 +120,37 @@ fn deed(words: &[&str]) -> Result<Call, Wrong>
     }
 }
 
+// The words after `mix`, all of them numbers.
+fn mix(words: &[&str]) -> Result<Keeps, Wrong>
+    ensures { OkIff result (IsMix words.now) Mix }
+{
+    for i in 3..words.len() {
+        number(words[i])?;
+    }
+    Ok(Keeps::Mix)
+}
+
+fn cut(words: &[&str]) -> Result<Line, Wrong>
+    ensures reads { ReadsCut words.now result }
+    ensures others { IsOk result → CutForm words.now }
+{
+    match *words {
+        ["cut", left, "firm"] => Ok(Line::Cut {
+            steps: number(left)?,
+            keeps: Keeps::Firm,
+        }),
+        ["cut", left, "live"] => Ok(Line::Cut {
+            steps: number(left)?,
+            keeps: Keeps::Live,
+        }),
+        ["cut", left, "mix", _, ..] => Ok(Line::Cut {
+            steps: number(left)?,
+            keeps: mix(words)?,
+        }),
+        _ => Err(Wrong::CutForm),
+    }
+}
+
 fn call(words: &[&str]) -> Result<Call, Wrong>
     ensures reads { ReadsCall words.now result (λ c. c) }
     ensures others { IsOk result → CallForm words.now }
@@ -150,13 +182,15 @@ pub fn line(words: &[&str]) -> Result<Line, Wrong>
     ensures probing { ReadsProbing words.now result ProbingLine }
     ensures deed { ReadsDeed words.now result CallLine }
     ensures call { ReadsCall words.now result CallLine }
-    ensures others { IsOk result → MemoryForm words.now ⊎ (SettingForm words.now ⊎ (ProbingForm words.now ⊎ (DeedForm words.now ⊎ CallForm words.now))) }
+    ensures cut { ReadsCut words.now result }
+    ensures others { IsOk result → MemoryForm words.now ⊎ (SettingForm words.now ⊎ (ProbingForm words.now ⊎ (DeedForm words.now ⊎ (CutForm words.now ⊎ CallForm words.now)))) }
 {
     match *words {
         ["memory", ..] => Ok(Line::Memory(memory(words)?)),
         ["margin" | "rotation" | "kind" | "make", ..] => Ok(Line::Setting(setting(words)?)),
         ["steps" | "poke" | "dump", ..] => Ok(Line::Probing(probing(words)?)),
         ["put" | "change" | "remove", ..] => Ok(Line::Call(deed(words)?)),
+        ["cut", ..] => cut(words),
         _ => Ok(Line::Call(call(words)?)),
     }
 }

@@ -55,6 +55,19 @@ impl<R: BufRead> Script<R> {
         self.number
     }
 
+    // The words of the last line read from the fourth on, as numbers; 0 for one that is none.
+    pub fn mix(&self) -> io::Result<Vec<u64>> {
+        let text = str::from_utf8(self.bytes.as_slice()).unwrap_or("");
+        let words: Vec<&str> = text.split_whitespace().collect(self.alloc)?;
+        let mut mix = vec![in self.alloc; 0; words.len().saturating_sub(3)]?;
+        for i in 0..mix.len() {
+            if let Some(word) = words.get(i + 3) {
+                mix[i] = parse::number(word).unwrap_or(0);
+            }
+        }
+        Ok(mix)
+    }
+
     // Takes one line's octets up; false at the end of the script.
     fn advance(&mut self) -> io::Result<bool> {
         self.bytes.clear();

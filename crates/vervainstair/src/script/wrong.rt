@@ -11,6 +11,7 @@ pub enum Wrong {
     ProbingForm,
     CallForm,
     KeyForm,
+    CutForm,
     NotANumber,
     TooGreat,
     NoMemory,
@@ -32,6 +33,8 @@ impl Wrong {
             Wrong::CallForm => "write format LEAVES, open, pairs, node N or state",
             Wrong::KeyForm =>
                 "write a key as YEAR DAY MILLISECOND or IDENTITY PORT, and a reading with put and change",
+            Wrong::CutForm =>
+                "write cut STEPS firm, cut STEPS live or cut STEPS mix W W .. with one word or more",
             Wrong::NotANumber => "a number is decimal digits and nothing else",
             Wrong::TooGreat => "a number is at most 18446744073709551615",
             Wrong::NoMemory => "no memory is named yet",

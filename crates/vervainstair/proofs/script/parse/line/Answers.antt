@@ -69,3 +69,10 @@ returns-in_ok-deed-in-put-clause-call c = record {
   node = search rules;
   state = search rules;
 }
+
+pub returns-in_ok-deed-in-put-clause-cut : goal.returns-in_ok-deed-in-put-clause-cut
+returns-in_ok-deed-in-put-clause-cut c = record {
+  firm = search rules;
+  live = search rules;
+  mix = search rules;
+}

@@ -13,6 +13,7 @@ returns c =
       probing = c.line.ensures.probing;
       deed = c.line.ensures.deed;
       call = c.line.ensures.call;
+      cut = c.line.ensures.cut;
       others = c.line.ensures.others;
     } in
     record {
