@@ -35,8 +35,8 @@ module _ {B : Type 0} (means : B → Words) (extent : B → ℕ) (origin : B →
   abbrev pub pile_origin : Layer Sort (Layer Sort (Layer Sort B)) → ℕ → ℕ
   pile_origin p i =
       origin p.below.below.below (on p.below.below.numbering (means p.below.below.below)
-        (on p.below.numbering (layered (numbered p.below.below.numbering) (means p.below.below.below))
-          (on p.numbering (layered (numbered p.below.numbering) (layered (numbered p.below.below.numbering) (means p.below.below.below))) i)))
+      (on p.below.numbering (layered (numbered p.below.below.numbering) (means p.below.below.below))
+      (on p.numbering (layered (numbered p.below.numbering) (layered (numbered p.below.below.numbering) (means p.below.below.below))) i)))
 
   -- The pile settled by the choices, with new steps.
   abbrev pub settled : List ℕ → ℕ → Layer Sort (Layer Sort (Layer Sort B)) → Words
