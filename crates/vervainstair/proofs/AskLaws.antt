@@ -1,5 +1,5 @@
 -- A line with a word speaks.
-use Rattle.std.proofs.Common.{◌≡◌, ℕ, ◌<◌, [], ◌∷◌, length, refl, arith}
+use Rattle.std.proofs.Common.{◌<◌, [], ◌∷◌, length, refl, arith}
 use Rattle.std.specs.Prelude.{Some, Result}
 use Rattle.vervainstair.specs.Asking.{ReadsLine, Speaks}
 use Rattle.vervainstair.specs.Forms.{Words}

@@ -12,7 +12,6 @@ use Rattle.keys.specs.declared.stamp.Stamp.{Stamp}
 use Rattle.leaves.specs.Opening.{open_answer, plain}
 use Rattle.books.specs.Footprint.{book}
 use Rattle.leaves.specs.Pairs.{lookup}
-use Rattle.plans.specs.Deeds.{key_of}
 use Rattle.plans.specs.declared.deed.Deed.{Deed}
 use Rattle.plans.specs.declared.deed.Deed.TheVariants as deed
 use Rattle.leaves.specs.declared.open.Fault.{Fault}

@@ -7,6 +7,7 @@ use std::io::{self, BufReader, BufWriter};
 
 mod console;
 mod correction;
+mod cuts;
 mod damage;
 mod dates;
 mod pile;
@@ -18,7 +19,8 @@ fn show_task(rt: &impl Print) -> io::Result<()> {
     dates::show(rt)?;
     correction::show(rt)?;
     damage::show(rt)?;
-    season::show(rt)
+    season::show(rt)?;
+    cuts::show(rt)
 }
 
 fn main(rt: HostRuntime) -> io::Result<()> {
