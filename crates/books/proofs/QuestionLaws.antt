@@ -1,18 +1,19 @@
 -- Find, next and pairs tell of a book what its leaves tell.
-use Rattle.std.proofs.Common.{◌≡◌, ℕ, ◌+◌, ◌-◌, true, false, cond, List, [], ◌∷◌, ◌++◌, length, Some, None, Ok, sym, refl, ap, ◌∙◌, ⊎_elim, append_assoc, length-append}
+use Rattle.std.proofs.Common.{◌≡◌, ℕ, ◌+◌, ◌-◌, true, false, cond, List, [], ◌∷◌, ◌++◌, length, Some, None, Ok, sym, refl, ap, ◌∙◌, subst, ⊎_elim, append_assoc, length-append}
 use Rattle.std.proofs.lemmas.Bool.{both_ways, cases_Bool, cond-true, cond-false}
 use Rattle.keys.specs.InWords.{WordKind, WordOrdered}
 use Rattle.leaves.specs.declared.leaf.Pair.{Pair}
 use Rattle.leaves.specs.Layout.{count_of, word}
 use Rattle.leaves.specs.Pairs.{equal, first_after, lookup, pairs}
 use Rattle.leaves.specs.Opening.{open_answer}
-use Rattle.leaves.specs.Ascent.{Each, all_pairs}
+use Rattle.leaves.specs.Ascent.{Ascending, Each, all_pairs}
 use Rattle.leaves.proofs.PairLaws.{equal_true}
 use Rattle.leaves.proofs.AscentLaws.{each_map, each_pairs}
-use Rattle.leaves.proofs.BookLaws.{each_append, walk_chain, walked}
+use Rattle.leaves.proofs.BookLaws.{book_ascends, each_append, walk_chain, walked}
 use Rattle.books.specs.Bounds.{Keys}
 use Rattle.books.specs.Footprint.{linked}
-use Rattle.books.specs.Questions.{Finds, Nexts, Counts, first_of, or_else, pairs_in_all}
+use Rattle.leaves.proofs.ElementLaws.{lookup_pairs}
+use Rattle.books.specs.Questions.{Ascends, NewestDecides, Finds, Nexts, Counts, first_of, or_else, pairs_in_all}
 
 -- an opened list of leaves is the chain of the words
 pub linked_is : (o : WordKind) → WordOrdered o → (m ks : List ℕ) → open_answer o m ≡ Ok ks → linked m ≡ ks
@@ -85,3 +86,9 @@ counted_all o m (k ∷ ks) = length-append (pairs o m k (count_of m k)) (all_pai
 
 pub counts_hold : Counts
 counts_hold o ordered m ks h = ap (λ (js : List ℕ). length (all_pairs o m js)) (linked_is o ordered m ks h) ∙ counted_all o m ks
+
+pub ascends_hold : Ascends
+ascends_hold o ordered m ks opens = subst (λ js. Ascending o (all_pairs o m js)) (sym (linked_is o ordered m ks opens)) (book_ascends o ordered m ks opens)
+
+pub newest_decides_holds : NewestDecides
+newest_decides_holds o ordered m k w = sym (lookup_pairs o ordered w m k (count_of m k))

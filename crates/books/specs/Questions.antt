@@ -2,8 +2,9 @@
 use Rattle.std.specs.Prelude.{◌≡◌, ℕ, ◌+◌, true, List, [], ◌∷◌, ◌++◌, length, Some, None, Ok, Option}
 use Rattle.keys.specs.InWords.{WordKind, WordOrdered}
 use Rattle.leaves.specs.declared.leaf.Pair.{Pair}
-use Rattle.leaves.specs.Layout.{count_of}
-use Rattle.leaves.specs.Pairs.{first_after, lookup, pairs}
+use Rattle.leaves.specs.Layout.{count_of, elements}
+use Rattle.leaves.specs.Pairs.{first_after, latest, lookup, pairs}
+use Rattle.leaves.specs.Ascent.{Ascending}
 use Rattle.leaves.specs.Opening.{open_answer}
 use Rattle.books.specs.Bounds.{Keys}
 use Rattle.books.specs.Footprint.{book}
@@ -38,3 +39,12 @@ pairs_in_all o m (k ∷ ks) = length (pairs o m k (count_of m k)) + pairs_in_all
 -- The pairs of a book are those of its leaves.
 abbrev pub Counts : Type 0
 Counts = (o : WordKind) → WordOrdered o → (m ks : List ℕ) → open_answer o m ≡ Ok ks → length (book o m) ≡ pairs_in_all o m ks
+
+-- A book ascends, so that no key stands twice in it.
+abbrev pub Ascends : Type 0
+Ascends = (o : WordKind) → WordOrdered o → (m ks : List ℕ) → open_answer o m ≡ Ok ks → Ascending o (book o m)
+
+-- What a leaf has of a key is what the newest of its counted elements says: sign 1 that reading, sign 2 none.
+abbrev pub NewestDecides : Type 0
+NewestDecides =
+    (o : WordKind) → WordOrdered o → (m : List ℕ) (k : ℕ) (w : ℕ × ℕ) → lookup w (pairs o m k (count_of m k)) ≡ latest w (elements m k (count_of m k))

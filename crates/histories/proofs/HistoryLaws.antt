@@ -31,9 +31,9 @@ abbrev fed_with : List Pair → Option Waiting → PlainBook
 fed_with ps w = record { pairs = ps; waiting = w }
 
 -- A logbook opened on words that hold a book.
-opened_kept : (o : WordKind) → WordOrdered o → (words ks : List ℕ) (ps : List Pair) (through : Bool) (power : Power) → HoldsBook o words ks ps → Kept o (settled_on words through power) (opened o words) ps None
-opened_kept o ordered words ks ps through power h =
-    subst (λ a. Kept o (settled_on words through power) (found o words a) ps None) (sym h.0)
+opened_kept : (o : WordKind) → WordOrdered o → (m : Words) (words ks : List ℕ) (ps : List Pair) (power : Power) → HoldsBook o words ks ps → Kept o (settled_on m words power) (opened o words) ps None
+opened_kept o ordered m words ks ps power h =
+    subst (λ a. Kept o (settled_on m words power) (found o words a) ps None) (sym h.0)
     (refl, record { opens = h.0; bounded = opening_bounds_hold o ordered words ks h.0 }, h.1)
 
 -- A cut of a settled memory changes no word.
@@ -60,7 +60,7 @@ module _ (choose : Choice) (lawful : Lawful choose) (o : WordKind) (ordered : Wo
           whole = λ x is now. subst (λ (y : Waiting). book o words ≡ done o y.deed ps) (same_Some w x is) h.1;
           opens = (b.ks, h.0);
         },
-        rw (cond-true (stands_new c words) (done o w.deed ps) ps yes) (opened_kept o ordered words b.ks (done o w.deed ps) m.through power h),
+        rw (cond-true (stands_new c words) (done o w.deed ps) ps yes) (opened_kept o ordered m words b.ks (done o w.deed ps) power h),
       ))
       (λ no.
       let stale : New c words → ⊥ = eqb-false _ _ no in
@@ -71,7 +71,7 @@ module _ (choose : Choice) (lawful : Lawful choose) (o : WordKind) (ordered : Wo
           whole = λ x is new. absurd (stale (subst (λ (y : Waiting). New y.commit words) (sym (same_Some w x is)) new));
           opens = (b.from, h.0);
         },
-        rw (cond-false (stands_new c words) (done o w.deed ps) ps no) (opened_kept o ordered words b.from ps m.through power h),
+        rw (cond-false (stands_new c words) (done o w.deed ps) ps no) (opened_kept o ordered m words b.from ps power h),
       ))
       (cases_Bool (stands_new c words))
 
@@ -107,7 +107,7 @@ module _ (choose : Choice) (lawful : Lawful choose) (o : WordKind) (ordered : Wo
           whole = λ x none new. absurd (none-some x none);
           opens = (t.leaves, h.0);
         },
-        opened_kept o ordered words t.leaves ps m.through power h,
+        opened_kept o ordered m words t.leaves ps power h,
       )
   step m dark ps (Some w) (called d a e) kept (valid, answered, ended) = rw (answered, ended) (dark_step m ps w d kept)
   step m dark ps (Some w) (asked q r) kept h = (record { while_open = λ none. absurd (none-some w (sym none)); while_dark = λ x is. h }, kept)

@@ -13,7 +13,7 @@ use Rattle.histories.specs.Law.{FormatGranted, after_format}
 
 -- Room for two leaves, and so many steps after a format, which takes twelve.
 abbrev pub small : ℕ → Words
-small steps = record { live = zeros 152; firm = zeros 152; through = false; power = left (12 + steps) }
+small steps = record { live = zeros 152; firm = zeros 152; through = false; power = left (12 + steps); choosing = record { many = 152; place = λ i. i } }
 
 -- Day 366 of 2024 put with reading 7; a cut that keeps the live words, or else the firm ones; and what comes next after day 365.
 abbrev pub torn : Bool → List Act

@@ -26,7 +26,7 @@ Happens choose o s (cut words power) = Cut s.memory words
 abbrev pub after : Choice → WordKind → State → Event → State
 after choose o s (called d a e) = (outcome choose o s d).state
 after choose o s (asked q r) = s
-after choose o s (cut words power) = record { memory = settled_on words s.memory.through power; logbook = opened o words }
+after choose o s (cut words power) = record { memory = settled_on s.memory words power; logbook = opened o words }
 
 abbrev pub History : Choice → WordKind → State → List Event → Type 0
 History choose o s [] = Unit {0}

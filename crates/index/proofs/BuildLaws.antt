@@ -1,12 +1,11 @@
 -- Each node of an index built anew.
-use Rattle.std.proofs.Common.{◌≡◌, ℕ, zero, suc, ◌+◌, ◌-◌, ◌*◌, ◌<◌, ◌≤◌, min, true, cond, ltb, leb, List, [], ◌∷◌, ◌++◌, map, length, get_or, take, drop, sym, refl, ap, ◌∙◌, subst, ◌≢◌, ⊎_elim, append_assoc, append-nil, arith, length-append, length-drop, length-take, get_or-drop, take_all, get_or-take, drop-drop, ext_get_or}
+use Rattle.std.proofs.Common.{◌≡◌, ℕ, zero, suc, ◌+◌, ◌-◌, ◌*◌, ◌<◌, ◌≤◌, min, true, cond, ltb, leb, List, [], ◌∷◌, ◌++◌, map, length, get_or, take, drop, sym, refl, ap, ◌∙◌, subst, ◌≢◌, ⊎_elim, append_assoc, append-nil, arith, length-append, length-drop, length-take, get_or-drop, take_all, get_or-take, set, get_or-set_other, drop-drop, ext_get_or}
 use lib.ListN.{length-map}
 use mathlib.Core.List.{map-append}
 use Rattle.std.proofs.lemmas.Bool.{cond-true, cond-false, cond_both, le-ltb, lt-ltb, le-leb, lt-leb, eq-eqb, ne_eqb, cases_lt, and_parts, and_from, eqb-true, cases_eq, false≢true}
 use Rattle.std.proofs.lemmas.List.{drop_all, drop_at, take_at, map_more, nil_from_length, get_or-map, take-map, drop-map}
-use denote.Param.Members.{Mut}
-use Rattle.std.specs.Fn.{Called}
-use Rattle.std.specs.Array.{IsFromFnResultFrom}
+use Rattle.std.proofs.lemmas.Grind.{get_or-set_at}
+use lib.Seq.{map-set}
 use Rattle.index.specs.declared.node.Entry.{Entry}
 use Rattle.index.specs.declared.node.Node.{Node}
 use Rattle.fixed_vec.specs.Items.{joined}
@@ -187,13 +186,15 @@ module _ (es : List Entry) (nodes : List Node) (h : length es ≤ 81) (long : le
   pub build_small : Small (groups (length es) nodes)
   build_small = rw build_groups (λ g below. omega (arith, singles_one es g below))
 
--- An array made by calls of one closure, which leave it as it was.
-pub made_at : {F B : Type 0} (g : Mut F (ℕ × Unit {0}) B) (P : ℕ → B → Type 0) (f : F) → ((i : ℕ) (y : B) (q : F) → Called g f (i, tt) y q → (q ≡ f) × P i y)
-    → (ys : List B) (n i k : ℕ) (d : B) → IsFromFnResultFrom g f ys i n → i ≤ k → k < i + n → P k (get_or ys k d)
-made_at g P f call ys zero i k d e h l = absurd (omega arith)
-made_at g P f call ys (suc n) i k d e h l =
-    let here = call i e.1 e.0 e.3 in
-    ⊎_elim
-    (λ (z : k ≡ i). subst (λ j. P j (get_or ys j d)) (sym z) (subst (P i) (sym (e.2.1 d)) here.1))
-    (λ (z : k ≢ i). made_at g P f call ys n (i + 1) k d (subst (λ p. IsFromFnResultFrom g p ys (i + 1) n) here.0 e.4) (omega arith) (omega arith))
-    (cases_eq k i)
+-- One node more of those that are to be as told.
+pub nodes_turn : (f : ℕ → List Entry) (nodes : List Node) (i : ℕ) (node : Node) → i < length nodes → items node ≡ f i → ((k : ℕ) → k < i → get_or (map items nodes) k [] ≡ f k)
+    → (k : ℕ) → k < i + 1 → get_or (map items (set nodes i node)) k [] ≡ f k
+nodes_turn f nodes i node h is each k b =
+    let others = map items nodes in
+    ap (λ xs. get_or xs k []) (map-set items nodes i node)
+    ∙ ⊎_elim
+    (λ (l : k < i). get_or-set_other others i k (items node) [] (λ e. omega arith) ∙ each k l)
+    (λ (l : i ≤ k).
+    let e : k ≡ i = omega arith in
+    get_or-set_at others i k (items node) [] e (simp length-map h) ∙ is ∙ ap f (sym e))
+    (cases_lt k i)

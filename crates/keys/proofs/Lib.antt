@@ -1,3 +1,4 @@
 pub mod WordLaws
 pub mod CalendarLaws
 pub mod CalendarOfStamps
+mod StampWords

@@ -46,9 +46,8 @@ moved_at line n size v keeps i h =
     other k lt e =
         rw (ne_eqb (place line k) (place line i) (λ s. e (omega (arith, v.apart (k / 8) (i / 8) (omega arith) (omega arith) (omega arith)))))
 
-pub layered_free : {num : Numbering} {m : Words} (extent : ℕ) (origin : ℕ → ℕ) → Sound num → Lawful m → Freely m extent origin
-    → Freely (layered num m) extent (λ i. origin (place (num.line (size_of m)) i))
-layered_free {num} {m} extent origin sound laws free keeps =
+pub layered_free : {num : Numbering} {m : Words} → Sound num → Lawful m → Freely m → Freely (layered num m)
+layered_free {num} {m} sound laws free keeps =
     let line = num.line (size_of m) in
     let n = num.words (size_of m) in
     let view = sound.view (size_of m) in
@@ -57,7 +56,7 @@ layered_free {num} {m} extent origin sound laws free keeps =
     let firm = shown line n m.firm in (
       below.0,
       below.1,
-      sym (shown_picked line n (λ j. odd_at below.0 (origin j)) m.live m.firm view)
+      sym (shown_picked line n (λ j. odd_at below.0 (m.choosing.place j)) m.live m.firm view)
           ∙ ap (shown line n) below.2
           ∙ shown_picked line n (moved line n keeps) m.live m.firm view
           ∙ picked_by (λ i. moved line n keeps (place line i)) keeps live firm

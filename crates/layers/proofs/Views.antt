@@ -20,8 +20,8 @@ size_after_store m i w = cond_both (is_ok (store_answer m i)) _ _ (λ x. size_of
 size_after_flush : (m : Words) (l : ℕ) → size_of (after_flush m l) ≡ size_of m
 size_after_flush m l = cond_both (is_ok (flush_answer m l)) _ _ (λ x. size_of x ≡ size_of m) (λ _. refl) (λ _. refl)
 
-size_after_settle : (m : Words) (extent : ℕ) (origin : ℕ → ℕ) (choice : List ℕ) (steps : ℕ) → size_of (after_settle m extent origin choice steps) ≡ size_of m
-size_after_settle m extent origin choice steps = cond_both (is_ok (settle_answer extent choice)) _ _ (λ x. size_of x ≡ size_of m) (λ _. length_tabled (size_of m) _) (λ _. refl)
+size_after_settle : (m : Words) (choice : List ℕ) (steps : ℕ) → size_of (after_settle m choice steps) ≡ size_of m
+size_after_settle m choice steps = cond_both (is_ok (settle_answer m choice)) _ _ (λ x. size_of x ≡ size_of m) (λ _. length_tabled (size_of m) _) (λ _. refl)
 
 module _ (line : ℕ → ℕ) (n : ℕ) where
   shown_at : (ws : List ℕ) (k : ℕ) → k < n → get_or (shown line n ws) k 0 ≡ get_or ws (place line k) 0
@@ -91,7 +91,7 @@ module _ (line : ℕ → ℕ) (n : ℕ) where
         rw (size_seen m, lt-leb n i h, lt-leb (size_of m) (place line i) below, shown_at m.live i h, shown_at m.firm i h)
 
     stored_within : (i w : ℕ) → i < n → seen line n (stored m (place line i) w) ≡ stored (seen line n m) i w
-    stored_within i w h = words_by m.through _ (shown_set m.live i w v h) (firm_stored m.through)
+    stored_within i w h = words_by m.through _ _ (shown_set m.live i w v h) (firm_stored m.through)
       where
         firm_stored : (t : Bool) → shown line n (cond t (set m.firm (place line i) w) m.firm) ≡ cond t (set (shown line n m.firm) i w) (shown line n m.firm)
         firm_stored true = shown_set m.firm i w view_firm h
@@ -107,7 +107,7 @@ module _ (line : ℕ → ℕ) (n : ℕ) where
         rw (size_seen m, lt-leb n (8 * l) h, lt-leb (size_of m) (8 * line l) below)
 
     flushed_within : (l : ℕ) → 8 * l < n → seen line n (flushed m (line l)) ≡ flushed (seen line n m) l
-    flushed_within l h = words_by m.through _ refl
+    flushed_within l h = words_by m.through _ _ refl
         (shown_picked (λ j. eqb (j / 8) (line l)) m.live m.firm v
         ∙ picked_by (λ i. eqb (place line i / 8) (line l)) (λ i. eqb (i / 8) l) (shown line n m.live) (shown line n m.firm) (λ k lt. same_line l k (size_of m) v h (omega (arith, size_seen m))))
 
@@ -115,12 +115,11 @@ module _ (line : ℕ → ℕ) (n : ℕ) where
     after_flush_within l h =
         either (is_ok (flush_answer m (line l))) (flushed m (line l)) m ∙ rw (flush_within l h, flushed_within l h)
 
-    after_settle_within : (extent : ℕ) (origin : ℕ → ℕ) (choice : List ℕ) (steps : ℕ)
-        → seen line n (after_settle m extent origin choice steps) ≡ after_settle (seen line n m) extent (λ i. origin (place line i)) choice steps
-    after_settle_within extent origin choice steps =
-        either (is_ok (settle_answer extent choice)) _ m
-        ∙ ap (λ x. cond (is_ok (settle_answer extent choice)) x (seen line n m))
-        (words_by m.through _ (shown_picked (λ i. odd_at choice (origin i)) m.live m.firm v) (shown_picked (λ i. odd_at choice (origin i)) m.live m.firm v))
+    after_settle_within : (choice : List ℕ) (steps : ℕ) → seen line n (after_settle m choice steps) ≡ after_settle (seen line n m) choice steps
+    after_settle_within choice steps =
+        either (is_ok (settle_answer m choice)) _ m
+        ∙ ap (λ x. cond (is_ok (settle_answer m choice)) x (seen line n m))
+        (words_by m.through _ _ (shown_picked (λ i. odd_at choice (m.choosing.place i)) m.live m.firm v) (shown_picked (λ i. odd_at choice (m.choosing.place i)) m.live m.firm v))
 
 pub size_layered : (num : Numbering) (m : Words) → size_of (layered num m) ≡ num.words (size_of m)
 size_layered num m = size_seen (num.line (size_of m)) (num.words (size_of m)) m
@@ -176,15 +175,8 @@ module _ {num : Numbering} {m : Words} (sound : Sound num) (laws : Lawful m) whe
       (λ h. rw (sym (flush_outside (num.line (size_of m)) (num.words (size_of m)) m l h)) refl)
       e
 
-  pub after_settle_layered : {m' : Words} (extent : ℕ) (origin : ℕ → ℕ) (choice : List ℕ) (steps : ℕ) → m' ≡ after_settle m extent origin choice steps
-      → layered num m' ≡ after_settle (layered num m) extent (λ i. origin (place (num.line (size_of m)) i)) choice steps
-  after_settle_layered extent origin choice steps after =
-      ap (layered num) after ∙ rw (size_after_settle m extent origin choice steps)
-      (after_settle_within (num.line (size_of m)) (num.words (size_of m)) m (sound.view (size_of m)) laws extent origin choice steps)
-
--- A settle moves no word of a layer to another word at the bottom.
-pub origin_layered : (num : Numbering) (m : Words) {m' : Words} {origin' : ℕ → ℕ} (extent : ℕ) (origin : ℕ → ℕ) (choice : List ℕ) (steps : ℕ)
-    → m' ≡ after_settle m extent origin choice steps → ((i : ℕ) → origin' i ≡ origin i)
-    → (i : ℕ) → origin' (place (num.line (size_of m')) i) ≡ origin (place (num.line (size_of m)) i)
-origin_layered num m extent origin choice steps after same i =
-    same _ ∙ ap (λ n. origin (place (num.line n) i)) (ap size_of after ∙ size_after_settle m extent origin choice steps)
+  pub after_settle_layered : {m' : Words} (choice : List ℕ) (steps : ℕ) → m' ≡ after_settle m choice steps
+      → layered num m' ≡ after_settle (layered num m) choice steps
+  after_settle_layered choice steps after =
+      ap (layered num) after ∙ rw (size_after_settle m choice steps)
+      (after_settle_within (num.line (size_of m)) (num.words (size_of m)) m (sound.view (size_of m)) laws choice steps)

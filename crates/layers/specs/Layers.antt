@@ -2,7 +2,7 @@
 use Rattle.std.specs.Prelude.{◌≡◌, ℕ, ◌+◌, ◌-◌, ◌*◌, ◌/◌, ◌%◌, ◌<◌, cond, List, Some, None, Option, nat_lt, slice_index}
 use Rattle.std.proofs.Common.{sym, ap, ◌∙◌}
 use Rattle.std.proofs.lemmas.List.FromFn.{length-map-range_with_len}
-use Rattle.memory.specs.Meaning.{Words, Lawful, size_of, tabled, after_store, after_flush}
+use Rattle.memory.specs.Meaning.{Words, Lawful, Rooted, size_of, tabled, after_store, after_flush}
 
 -- How a layer numbers the lines of a memory of a given size: the words that it has, and the line below that a line lies on.
 pub record Numbering : Type 0 where
@@ -35,7 +35,13 @@ abbrev pub shown : (ℕ → ℕ) → ℕ → List ℕ → List ℕ
 shown line n words = tabled n (λ i. slice_index words (place line i))
 
 abbrev pub seen : (ℕ → ℕ) → ℕ → Words → Words
-seen line n m = record { live = shown line n m.live; firm = shown line n m.firm; through = m.through; power = m.power }
+seen line n m = record {
+  live = shown line n m.live;
+  firm = shown line n m.firm;
+  through = m.through;
+  power = m.power;
+  choosing = record { many = m.choosing.many; place = λ i. m.choosing.place (place line i) };
+}
 
 abbrev pub layered : Numbering → Words → Words
 layered num m = seen (num.line (size_of m)) (num.words (size_of m)) m
@@ -64,3 +70,6 @@ layered_lawful num {m} laws = record {
   level = length-map-range_with_len _ 0 (num.words (size_of m)) ∙ sym (length-map-range_with_len _ 0 (num.words (size_of m)));
   settled = λ e. ap (shown (num.line (size_of m)) (num.words (size_of m))) (laws.settled e);
 }
+
+pub layered_rooted : (num : Numbering) {m bottom : Words} → Rooted m bottom → Rooted (layered num m) bottom
+layered_rooted num rooted = record { many = rooted.many; place = rooted.place }

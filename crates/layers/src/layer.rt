@@ -1,6 +1,6 @@
 ghost use Rattle.std.specs.Prelude.{◌≡◌, ℕ};
 ghost use Rattle.std.specs.Borrow.{Lends, sem};
-ghost use Rattle.layers.specs.Layers.{Numbering, Sound, flush_below, layered, layered_lawful, line_under, place, store_below, word_below};
+ghost use Rattle.layers.specs.Layers.{Numbering, Sound, flush_below, layered, layered_lawful, layered_rooted, line_under, store_below, word_below};
 ghost use Rattle.layers.specs.contracts.layer.Layer.{the_row};
 ghost use Rattle.memory.specs.Meaning.{Freely, after_flush, after_settle, after_store, flush_answer, read_answer, settle_answer, size_of, store_answer};
 
@@ -113,10 +113,6 @@ impl<N: Renumber, M: Memory> Memory for Layer<N, M> {
 }
 
 impl<N: Renumber, M: Settle> Settle for Layer<N, M> {
-    ghost extent = { λ s. M.Settle.extent s.below };
-
-    ghost origin = { λ s i. M.Settle.origin s.below (place ((N.numbering s.numbering).line (size_of (M.Memory.meaning s.below))) i) };
-
     ghost bottom = { λ s. M.Settle.bottom s.below };
 
     fn choices(&self) -> usize {
@@ -124,14 +120,15 @@ impl<N: Renumber, M: Settle> Settle for Layer<N, M> {
     }
 
     fn settle(&mut self, choice: &[u64], steps: u64) -> Result<(), Refusal>
-        ensures answer { result ≡ settle_answer (M.Settle.extent self.old.below) choice.now }
-        ensures after { layered (N.numbering self.new.numbering) (M.Memory.meaning self.new.below) ≡ after_settle (layered (N.numbering self.old.numbering) (M.Memory.meaning self.old.below)) (M.Settle.extent self.old.below) (λ i. M.Settle.origin self.old.below (place ((N.numbering self.old.numbering).line (size_of (M.Memory.meaning self.old.below))) i)) choice.now steps }
-        ensures whole { M.Settle.bottom self.new.below ≡ after_settle (M.Settle.bottom self.old.below) (M.Settle.extent self.old.below) (λ i. i) choice.now steps }
-        ensures stays { (M.Settle.extent self.new.below ≡ M.Settle.extent self.old.below) × ((i : ℕ) → M.Settle.origin self.new.below (place ((N.numbering self.new.numbering).line (size_of (M.Memory.meaning self.new.below))) i) ≡ M.Settle.origin self.old.below (place ((N.numbering self.old.numbering).line (size_of (M.Memory.meaning self.old.below))) i)) }
-        ensures free { Freely (layered (N.numbering self.old.numbering) (M.Memory.meaning self.old.below)) (M.Settle.extent self.old.below) (λ i. M.Settle.origin self.old.below (place ((N.numbering self.old.numbering).line (size_of (M.Memory.meaning self.old.below))) i)) }
+        ensures answer { result ≡ settle_answer (layered (N.numbering self.old.numbering) (M.Memory.meaning self.old.below)) choice.now }
+        ensures after { layered (N.numbering self.new.numbering) (M.Memory.meaning self.new.below) ≡ after_settle (layered (N.numbering self.old.numbering) (M.Memory.meaning self.old.below)) choice.now steps }
+        ensures whole { M.Settle.bottom self.new.below ≡ after_settle (M.Settle.bottom self.old.below) choice.now steps }
+        ensures free { Freely (layered (N.numbering self.old.numbering) (M.Memory.meaning self.old.below)) }
         ensures kept { self.new.numbering ≡ self.old.numbering }
-        ensures below { M.Memory.meaning self.new.below ≡ after_settle (M.Memory.meaning self.old.below) (M.Settle.extent self.old.below) (M.Settle.origin self.old.below) choice.now steps }
+        ensures below { M.Memory.meaning self.new.below ≡ after_settle (M.Memory.meaning self.old.below) choice.now steps }
     {
         self.below.settle(choice, steps)
     }
+
+    ghost rooted = { λ s. layered_rooted (N.numbering s.numbering) (M.Settle.rooted s.below) };
 }

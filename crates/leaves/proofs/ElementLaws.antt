@@ -24,6 +24,15 @@ elements_joined m k s h =
     let n = length-map-range_with_len (element m k) 0 s in
     joined_all 16 (elements m k s) (element m k s ∷ []) (omega arith) ∙ sym (map-range_with_len_more (element m k) 0 s s (omega arith))
 
+-- What a key's newest element says of it, with one element more.
+pub latest_more : (w : ℕ × ℕ) (m : List ℕ) (k s : ℕ) → latest w (elements m k (s + 1)) ≡ cond (equal (element m k s).key w) (held (element m k s)) (latest w (elements m k s))
+latest_more w m k s =
+    let e = element m k s in
+    let es = elements m k s in
+    ap (latest w) (map-range_with_len_more (element m k) 0 s s (omega arith))
+    ∙ ap (λ ds. option_and_then held (find (λ d. equal d.key w) ds)) (reverse-append es (e ∷ []))
+    ∙ elim (equal e.key w) as (λ b. option_and_then held (cond b (Some e) (find (λ d. equal d.key w) (reverse es))) ≡ cond b (held e) (latest w es)) [ true ↦ refl | false ↦ refl ]
+
 module _ (o : WordKind) where
   pub pairs_folded : (m : List ℕ) (k n : ℕ) → pairs o m k n ≡ folded o [] (elements m k n)
   pairs_folded m k zero = refl

@@ -41,7 +41,7 @@ module _ (o : WordKind) (q : Pair) where
       elim (o.before p.key q.key) as (λ b. cond b (p ∷ insert o q ps) (q ∷ past_own o q.key (p ∷ ps)) ≡ take (cond b (1 + smaller ps) 0) (p ∷ ps) ++ q ∷ past_own o q.key (drop (cond b (1 + smaller ps) 0) (p ∷ ps)))
       [ true ↦ more | false ↦ refl ]
 
-  pub insert_joined : (ps : List Pair) → length ps ≤ 16 → joined 17 (joined 17 (joined 17 [] (take (smaller ps) ps)) (q ∷ [])) (past_own o q.key (drop (smaller ps) ps)) ≡ insert o q ps
+  pub insert_joined : (ps : List Pair) → length ps ≤ 16 → joined 17 (joined 17 (take (smaller ps) ps) (q ∷ [])) (past_own o q.key (drop (smaller ps) ps)) ≡ insert o q ps
   insert_joined ps h =
       let n = smaller ps in
       let few = prefix_len-le-length (λ (p : Pair). o.before p.key q.key) ps in
@@ -49,7 +49,6 @@ module _ (o : WordKind) (q : Pair) where
       let back = length-drop n ps in
       let past = length_past o q.key (drop n ps) in
       let one = length-append (take n ps) (q ∷ []) in
-      let first = joined_all 17 [] (take n ps) (omega arith) in
       let second = joined_all 17 (take n ps) (q ∷ []) (omega arith) in
       let third = joined_all 17 (take n ps ++ q ∷ []) (past_own o q.key (drop n ps)) (omega arith) in
-      rw (first, second, third) (append_assoc (take n ps) (q ∷ []) (past_own o q.key (drop n ps)) ∙ sym (insert_split ps))
+      rw (second, third) (append_assoc (take n ps) (q ∷ []) (past_own o q.key (drop n ps)) ∙ sym (insert_split ps))

@@ -5,7 +5,9 @@ use Rattle.refusal.specs.declared.Refusal.TheVariants.{Outside, BadLeaf}
 use Rattle.fixed_vec.specs.declared.FixedVec.{FixedVec}
 use Rattle.fixed_vec.specs.Items.{items}
 use Rattle.leaves.specs.declared.leaf.Element.{Element}
-use Rattle.leaves.specs.Layout.{count_of}
+use Rattle.leaves.specs.declared.leaf.Seen.{Seen}
+use Rattle.leaves.specs.Layout.{count_of, elements}
+use Rattle.leaves.specs.Pairs.{latest}
 
 -- The count of leaf k, if the leaf is one of 1 to 64 within the memory and counts at most 16 slots.
 abbrev pub count_answer : List ℕ → ℕ → Result ℕ Refusal
@@ -25,3 +27,7 @@ counted m k say = granted (count_answer m k) say
 abbrev pub elements_told : Result (FixedVec Element 16) Refusal → Result (List Element) Refusal
 elements_told (Ok es) = Ok (items es)
 elements_told (Err e) = Err e
+
+-- What n counted slots of leaf k say of a key.
+abbrev pub seen : List ℕ → ℕ → ℕ × ℕ → ℕ → Seen
+seen m k w n = record { count = n; held = latest w (elements m k n) }

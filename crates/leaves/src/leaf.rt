@@ -21,6 +21,13 @@ pub struct Pair {
     pub reading: u64,
 }
 
+// How many slots of a leaf are counted, and the reading that they leave a key with.
+#[derive(Clone, Copy)]
+pub struct Seen {
+    pub count: usize,
+    pub held: Option<u64>,
+}
+
 // The oldest elements of a leaf, in the order in which they were written.
 pub type Elements = FixedVec<Element, 16>;
 

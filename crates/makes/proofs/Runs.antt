@@ -7,7 +7,7 @@ use Rattle.std.proofs.lemmas.Bool.Decides.{nat_tests}
 use Rattle.memory.specs.Meaning.{picked, store_answer, after_store, flush_answer, after_flush, odd_at, settle_answer, after_settle, Freely}
 use Rattle.makes.specs.Makes.{shared, unshared, buffered_words, through_words}
 use Rattle.makes.specs.Probes.{poked}
-use Rattle.memory.proofs.Words.{chosen, length_chosen, odd_at_chosen, is_tabled, picked_by, picked_same, words_by}
+use Rattle.memory.proofs.Words.{choices_for, length_chosen, odd_at_chosen, is_tabled, picked_by, picked_same, words_by}
 
 pub store_after : (a b : List ℕ) (n i w : ℕ) → i < shared a b → is_ok (store_answer (buffered_words a b n) i) ≡ true
     → buffered_words (set a i w) b (n - 1) ≡ after_store (buffered_words a b n) i w
@@ -28,7 +28,7 @@ pub flush_after : (a b b' : List ℕ) (n l i : ℕ) → length b' ≡ length b �
 flush_after a b b' n l i e end g at =
     rw (cond-true (is_ok (flush_answer (buffered_words a b n) l)) _ _ g)
     (rw e
-    (words_by false _ refl
+    (words_by false _ _ refl
     (is_tabled (take (shared a b) b') (length (take (shared a b) a)) _ (search (rules, places))
     (λ k h.
     let below : k < shared a b = omega (arith, length-take (shared a b) a) in
@@ -76,13 +76,13 @@ kept a b x choice i old long end at =
 
 -- Both runs hold what the choice run keeps.
 pub settle_after : (a b a' b' choice : List ℕ) (n steps i : ℕ) → length a' ≡ length a → length b' ≡ length b → shared a b ≤ i
-    → is_ok (settle_answer (shared a b) choice) ≡ true
+    → is_ok (settle_answer (buffered_words a b n) choice) ≡ true
     → ((k : ℕ) → get_or a' k 0 ≡ cond (ltb k i) (cond (odd_at choice k) (get_or a k 0) (get_or b k 0)) (get_or a k 0))
     → ((k : ℕ) → get_or b' k 0 ≡ cond (ltb k i) (cond (odd_at choice k) (get_or a k 0) (get_or b k 0)) (get_or b k 0))
-    → buffered_words a' b' steps ≡ after_settle (buffered_words a b n) (shared a b) (λ k. k) choice steps
+    → buffered_words a' b' steps ≡ after_settle (buffered_words a b n) choice steps
 settle_after a b a' b' choice n steps i ea eb end g at-live at-firm =
-    rw (cond-true (is_ok (settle_answer (shared a b) choice)) _ _ g, ea, eb)
-    (words_by false _
+    rw (cond-true (is_ok (settle_answer (buffered_words a b n) choice)) _ _ g, ea, eb)
+    (words_by false _ _
     (kept a b a' choice i (λ k. get_or a k 0) (omega arith) end at-live)
     (kept a b b' choice i (λ k. get_or b k 0) (omega arith) end at-firm))
 
@@ -120,13 +120,13 @@ settle_rest a b a' b' choice i ea eb end at-live at-firm =
     (λ k h. let past : ltb k i ≡ false = grind (arith, nat_tests) in at-firm k ∙ rw past)
 
 -- Every mix can be chosen in a buffered memory, and in a through memory there is only one.
-pub buffered_free : (a b : List ℕ) (n : ℕ) → Freely (buffered_words a b n) (shared a b) (λ i. i)
+pub buffered_free : (a b : List ℕ) (n : ℕ) → Freely (buffered_words a b n)
 buffered_free a b n keeps = (
-  chosen (shared a b) keeps,
+  choices_for (shared a b) keeps,
   length_chosen (shared a b) keeps,
-  picked_by (odd_at (chosen (shared a b) keeps)) keeps (take (shared a b) a) (take (shared a b) b)
+  picked_by (odd_at (choices_for (shared a b) keeps)) keeps (take (shared a b) a) (take (shared a b) b)
       (λ k h. odd_at_chosen (shared a b) keeps k (omega (arith, length-take (shared a b) a))),
 )
 
-pub through_free : (run : List ℕ) → Freely (through_words run) 0 (λ i. i)
+pub through_free : (run : List ℕ) → Freely (through_words run)
 through_free run keeps = ([], refl, sym (picked_same (odd_at []) run) ∙ picked_same keeps run)

@@ -3,10 +3,14 @@ use Rattle.std.specs.Prelude.{ℕ, min, true, false, List, length, take, drop, r
 use Rattle.std.proofs.Common.{sym, ◌∙◌, arith}
 use Rattle.std.proofs.lemmas.List.{length-take-le}
 use Rattle.std.proofs.lemmas.Bool.{false≢true}
-use Rattle.memory.specs.Meaning.{Words, Lawful, endless, left}
+use Rattle.memory.specs.Meaning.{Choosing, Words, Lawful, Rooted, endless, left}
+
+-- So many choices, word i by choice i.
+abbrev pub in_place : ℕ → Choosing
+in_place n = record { many = n; place = λ i. i }
 
 abbrev pub through_words : List ℕ → Words
-through_words run = record { live = run; firm = run; through = true; power = endless }
+through_words run = record { live = run; firm = run; through = true; power = endless; choosing = in_place 0 }
 
 -- The words that both runs have.
 abbrev pub shared : List ℕ → List ℕ → ℕ
@@ -18,6 +22,7 @@ buffered_words live firm steps = record {
   firm = take (shared live firm) firm;
   through = false;
   power = left steps;
+  choosing = in_place (shared live firm);
 }
 
 -- The words that the shorter run lacks, which are no part of the memory.
@@ -32,3 +37,9 @@ buffered_lawful live firm steps = record {
   level = length-take-le (shared live firm) live (omega arith) ∙ sym (length-take-le (shared live firm) firm (omega arith));
   settled = λ e. absurd (false≢true e);
 }
+
+pub through_rooted : (run : List ℕ) → Rooted (through_words run) (through_words run)
+through_rooted run = record { many = refl; place = λ _. refl }
+
+pub buffered_rooted : (live firm : List ℕ) (steps : ℕ) → Rooted (buffered_words live firm steps) (buffered_words live firm steps)
+buffered_rooted live firm steps = record { many = refl; place = λ _. refl }

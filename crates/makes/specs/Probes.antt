@@ -17,4 +17,4 @@ poke_answer m i = cond (nat_le (size_of m) i) (Err Outside) (Ok tt)
 
 -- One word new, live and firm; no word where it lies outside.
 abbrev pub poked : Words → ℕ → ℕ → Words
-poked m i w = record { live = slice_set m.live i w; firm = slice_set m.firm i w; through = m.through; power = m.power }
+poked m i w = record { live = slice_set m.live i w; firm = slice_set m.firm i w; through = m.through; power = m.power; choosing = m.choosing }

@@ -1,5 +1,5 @@
 ghost use Rattle.std.specs.Prelude.{◌≡◌, ℕ};
-ghost use Rattle.makes.specs.Makes.{buffered_lawful, buffered_words, shared, unshared};
+ghost use Rattle.makes.specs.Makes.{buffered_lawful, buffered_rooted, buffered_words, shared, unshared};
 ghost use Rattle.makes.specs.Probes.{poke_answer, poked};
 ghost use Rattle.memory.specs.Meaning.{Freely, after_flush, after_settle, after_store, flush_answer, read_answer, settle_answer, store_answer};
 
@@ -128,10 +128,6 @@ impl Memory for Buffered<'_> {
 }
 
 impl Settle for Buffered<'_> {
-    ghost extent = { λ s. shared s.live.now s.firm.now };
-
-    ghost origin = { λ _ i. i };
-
     ghost bottom = { λ s. buffered_words s.live.now s.firm.now s.steps };
 
     fn choices(&self) -> usize {
@@ -139,11 +135,10 @@ impl Settle for Buffered<'_> {
     }
 
     fn settle(&mut self, choice: &[u64], steps: u64) -> Result<(), Refusal>
-        ensures answer { result ≡ settle_answer (shared self.old.live.now self.old.firm.now) choice.now }
-        ensures after { buffered_words self.new.live.now self.new.firm.now self.new.steps ≡ after_settle (buffered_words self.old.live.now self.old.firm.now self.old.steps) (shared self.old.live.now self.old.firm.now) (λ i. i) choice.now steps }
-        ensures whole { buffered_words self.new.live.now self.new.firm.now self.new.steps ≡ after_settle (buffered_words self.old.live.now self.old.firm.now self.old.steps) (shared self.old.live.now self.old.firm.now) (λ i. i) choice.now steps }
-        ensures stays { (shared self.new.live.now self.new.firm.now ≡ shared self.old.live.now self.old.firm.now) × ((i : ℕ) → i ≡ i) }
-        ensures free { Freely (buffered_words self.old.live.now self.old.firm.now self.old.steps) (shared self.old.live.now self.old.firm.now) (λ i. i) }
+        ensures answer { result ≡ settle_answer (buffered_words self.old.live.now self.old.firm.now self.old.steps) choice.now }
+        ensures after { buffered_words self.new.live.now self.new.firm.now self.new.steps ≡ after_settle (buffered_words self.old.live.now self.old.firm.now self.old.steps) choice.now steps }
+        ensures whole { buffered_words self.new.live.now self.new.firm.now self.new.steps ≡ after_settle (buffered_words self.old.live.now self.old.firm.now self.old.steps) choice.now steps }
+        ensures free { Freely (buffered_words self.old.live.now self.old.firm.now self.old.steps) }
         ensures lent { (self.new.live.ghost_name ≡ self.old.live.ghost_name) × (self.new.firm.ghost_name ≡ self.old.firm.ghost_name) }
         ensures rest { unshared self.new.live.now self.new.firm.now ≡ unshared self.old.live.now self.old.firm.now }
     {
@@ -161,6 +156,8 @@ impl Settle for Buffered<'_> {
         self.steps = steps;
         Ok(())
     }
+
+    ghost rooted = { λ s. buffered_rooted s.live.now s.firm.now s.steps };
 }
 
 impl Probe for Buffered<'_> {

@@ -1,6 +1,6 @@
 ghost use Rattle.std.specs.Prelude.{◌≡◌, ℕ};
 ghost use Rattle.memory.specs.Meaning.{Freely, after_flush, after_settle, after_store, flush_answer, read_answer, settle_answer, store_answer};
-ghost use Rattle.makes.specs.Makes.{through_lawful, through_words};
+ghost use Rattle.makes.specs.Makes.{through_lawful, through_rooted, through_words};
 ghost use Rattle.makes.specs.Probes.{poke_answer, poked};
 
 use crate::probe::Probe;
@@ -76,10 +76,6 @@ impl Memory for Through<'_> {
 }
 
 impl Settle for Through<'_> {
-    ghost extent = { λ _. 0 };
-
-    ghost origin = { λ _ i. i };
-
     ghost bottom = { λ s. through_words s.run.now };
 
     fn choices(&self) -> usize {
@@ -88,11 +84,10 @@ impl Settle for Through<'_> {
 
     // Every word is firm already: there is nothing to choose, and steps stay endless.
     fn settle(&mut self, choice: &[u64], _steps: u64) -> Result<(), Refusal>
-        ensures answer { result ≡ settle_answer 0 choice.now }
-        ensures after { through_words self.new.run.now ≡ after_settle (through_words self.old.run.now) 0 (λ i. i) choice.now _steps }
-        ensures whole { through_words self.new.run.now ≡ after_settle (through_words self.old.run.now) 0 (λ i. i) choice.now _steps }
-        ensures stays { (◌≡◌ {A = ℕ} 0 0) × ((i : ℕ) → i ≡ i) }
-        ensures free { Freely (through_words self.old.run.now) 0 (λ i. i) }
+        ensures answer { result ≡ settle_answer (through_words self.old.run.now) choice.now }
+        ensures after { through_words self.new.run.now ≡ after_settle (through_words self.old.run.now) choice.now _steps }
+        ensures whole { through_words self.new.run.now ≡ after_settle (through_words self.old.run.now) choice.now _steps }
+        ensures free { Freely (through_words self.old.run.now) }
         ensures lent { self.new.run.ghost_name ≡ self.old.run.ghost_name }
     {
         if choice.len() < self.choices() {
@@ -100,6 +95,8 @@ impl Settle for Through<'_> {
         }
         Ok(())
     }
+
+    ghost rooted = { λ s. through_rooted s.run.now };
 }
 
 impl Probe for Through<'_> {

@@ -1,4 +1,4 @@
--- What a memory means: its live and firm words, whether it writes through, and its steps left.
+-- What a memory means: its live and firm words, whether it writes through, its steps left, and how a cut chooses.
 -- A read tells a live word; a firm word is what stands for certain once the supply is lost. Line l is the words 8 * l to 8 * l + 7.
 use Rattle.std.specs.Prelude.{◌≡◌, ℕ, ◌-◌, ◌*◌, ◌/◌, ◌%◌, Bool, true, false, cond, List, map, length, is_ok, Ok, Err, Result, ◌==◌, nat_eq, nat_le, nat_lt, slice_index, slice_set}
 use Rattle.std.specs.List.{range_with_len}
@@ -10,11 +10,18 @@ pub data Power : Type 0 where
   endless : Power
   left : ℕ → Power
 
+-- How a cut chooses between live and firm words: how many choices it takes, and the place of each word's own among them, which is
+-- where the word lies at the bottom.
+pub record Choosing : Type 0 where
+  pub many : ℕ
+  pub place : ℕ → ℕ
+
 pub record Words : Type 0 where
   pub live : List ℕ
   pub firm : List ℕ
   pub through : Bool
   pub power : Power
+  pub choosing : Choosing
 
 abbrev pub size_of : Words → ℕ
 size_of m = length m.live
@@ -64,6 +71,7 @@ stored m i w = record {
   firm = cond m.through (slice_set m.firm i w) m.firm;
   through = m.through;
   power = spent m.power;
+  choosing = m.choosing;
 }
 
 -- A refused call changes nothing.
@@ -81,6 +89,7 @@ flushed m l = record {
   firm = picked (λ i. nat_eq (i / 8) l) m.live m.firm;
   through = m.through;
   power = spent m.power;
+  choosing = m.choosing;
 }
 
 abbrev pub after_flush : Words → ℕ → Words
@@ -93,6 +102,7 @@ cut keeps power m = record {
   firm = picked keeps m.live m.firm;
   through = m.through;
   power = power;
+  choosing = m.choosing;
 }
 
 -- What a cut may leave: any mix of live and firm words, with any steps left.
@@ -104,20 +114,28 @@ abbrev pub renewed : Power → ℕ → Power
 renewed endless n = endless
 renewed (left _) n = left n
 
--- Settle is refused where the choice run is shorter than the words that have a choice, of which there are extent.
-abbrev pub settle_answer : ℕ → List ℕ → Result (Unit {0}) Refusal
-settle_answer extent choice = cond (nat_lt (length choice) extent) (Err WrongLength) (Ok tt)
+-- Settle is refused where there are too few choices.
+abbrev pub settle_answer : Words → List ℕ → Result (Unit {0}) Refusal
+settle_answer m choice = cond (nat_lt (length choice) m.choosing.many) (Err WrongLength) (Ok tt)
 
 -- An odd choice keeps live, an even one firm.
 abbrev pub odd_at : List ℕ → ℕ → Bool
 odd_at choice i = slice_index choice i % 2 == 1
 
--- The choice for word i stands at the place origin i of the choice run, which is where the word lies at the bottom.
-abbrev pub after_settle : Words → ℕ → (ℕ → ℕ) → List ℕ → ℕ → Words
-after_settle m extent origin choice steps =
-    cond (is_ok (settle_answer extent choice)) (cut (λ i. odd_at choice (origin i)) (renewed m.power steps) m) m
+-- What the choices make of the words.
+abbrev pub chosen : Words → List ℕ → ℕ → Words
+chosen m choice steps = cut (λ i. odd_at choice (m.choosing.place i)) (renewed m.power steps) m
+
+abbrev pub after_settle : Words → List ℕ → ℕ → Words
+after_settle m choice steps = cond (is_ok (settle_answer m choice)) (chosen m choice steps) m
+
+-- The make at the bottom takes the choices of the memory above, each word's own at its place.
+pub record Rooted (m bottom : Words) : Type 0 where
+  pub many : bottom.choosing.many ≡ m.choosing.many
+  pub place : (i : ℕ) → bottom.choosing.place i ≡ i
 
 -- Every mix of live and firm words can be chosen.
-abbrev pub Freely : Words → ℕ → (ℕ → ℕ) → Type 0
-Freely m extent origin =
-    (keeps : ℕ → Bool) → (choice : List ℕ) × (length choice ≡ extent) × (picked (λ i. odd_at choice (origin i)) m.live m.firm ≡ picked keeps m.live m.firm)
+abbrev pub Freely : Words → Type 0
+Freely m =
+    (keeps : ℕ → Bool) → (choice : List ℕ) × (length choice ≡ m.choosing.many)
+    × (picked (λ i. odd_at choice (m.choosing.place i)) m.live m.firm ≡ picked keeps m.live m.firm)

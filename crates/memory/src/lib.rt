@@ -2,7 +2,7 @@
 #![tactic(auto)]
 
 ghost use Rattle.std.specs.Prelude.{◌≡◌, ℕ, Ok};
-ghost use Rattle.memory.specs.Meaning.{CutOf, Freely, Lawful, Settled, Words, after_flush, after_settle, after_store, flush_answer, read_answer, settle_answer, size_of, store_answer};
+ghost use Rattle.memory.specs.Meaning.{CutOf, Freely, Lawful, Rooted, Settled, Words, after_flush, after_settle, after_store, flush_answer, read_answer, settle_answer, size_of, store_answer};
 
 use refusal::Refusal;
 
@@ -35,35 +35,29 @@ pub trait Memory {
 // A memory that can be cut off from power: each word then stands as its live or its firm word. A choice run says which: it
 // counts the words of the make at the bottom, below all layers; an odd choice keeps live, an even one firm.
 pub trait Settle: Memory {
-    // How many words of the make at the bottom have a choice: those of a buffered memory, none of a through memory.
-    ghost extent: { Self → ℕ };
-
-    // The word of the make at the bottom that a word lies on.
-    ghost origin: { Self → ℕ → ℕ };
-
     // What the make at the bottom means, with the words that layers hide.
     ghost bottom: { Self → Words };
 
     // How long a choice run must be.
     fn choices(&self) -> usize
-        ensures { result ≡ extent self.now };
+        ensures { result ≡ (Self.Memory.meaning self.now).choosing.many };
 
     // Settles each word by its choice, with new steps; refused where the choice run is shorter than that.
     fn settle(&mut self, choice: &[u64], steps: u64) -> Result<(), Refusal>
-        ensures answer { result ≡ settle_answer (extent self.old) choice.now }
-        ensures after { Self.Memory.meaning self.new ≡ after_settle (Self.Memory.meaning self.old) (extent self.old) (origin self.old) choice.now steps }
-        ensures whole { bottom self.new ≡ after_settle (bottom self.old) (extent self.old) (λ i. i) choice.now steps }
-        ensures stays { (extent self.new ≡ extent self.old) × ((i : ℕ) → origin self.new i ≡ origin self.old i) }
-        ensures free { Freely (Self.Memory.meaning self.old) (extent self.old) (origin self.old) };
+        ensures answer { result ≡ settle_answer (Self.Memory.meaning self.old) choice.now }
+        ensures after { Self.Memory.meaning self.new ≡ after_settle (Self.Memory.meaning self.old) choice.now steps }
+        ensures whole { bottom self.new ≡ after_settle (bottom self.old) choice.now steps }
+        ensures free { Freely (Self.Memory.meaning self.old) };
+
+    ghost rooted: { (m : Self) → Rooted (Self.Memory.meaning m) (bottom m) };
 }
 
 // Cuts the power: where the choice run is long enough, what is left is a cut of what there was, and settled. Every mix can be chosen.
 pub fn cut<M: Settle>(memory: &mut M, choice: &[u64], steps: u64) -> Result<(), Refusal>
-    ensures answer { result ≡ settle_answer (M.Settle.extent memory.old) choice.now }
-    ensures after { M.Memory.meaning memory.new ≡ after_settle (M.Memory.meaning memory.old) (M.Settle.extent memory.old) (M.Settle.origin memory.old) choice.now steps }
-    ensures whole { M.Settle.bottom memory.new ≡ after_settle (M.Settle.bottom memory.old) (M.Settle.extent memory.old) (λ i. i) choice.now steps }
-    ensures stays { (M.Settle.extent memory.new ≡ M.Settle.extent memory.old) × ((i : ℕ) → M.Settle.origin memory.new i ≡ M.Settle.origin memory.old i) }
-    ensures free { Freely (M.Memory.meaning memory.old) (M.Settle.extent memory.old) (M.Settle.origin memory.old) }
+    ensures answer { result ≡ settle_answer (M.Memory.meaning memory.old) choice.now }
+    ensures after { M.Memory.meaning memory.new ≡ after_settle (M.Memory.meaning memory.old) choice.now steps }
+    ensures whole { M.Settle.bottom memory.new ≡ after_settle (M.Settle.bottom memory.old) choice.now steps }
+    ensures free { Freely (M.Memory.meaning memory.old) }
     ensures mixed { result ≡ Ok tt → CutOf (M.Memory.meaning memory.old) (M.Memory.meaning memory.new) }
     ensures settled { result ≡ Ok tt → Settled (M.Memory.meaning memory.new) }
 {

@@ -1,13 +1,12 @@
 -- A call of a logbook, a question and a cut come to what a history tells.
-use Rattle.std.proofs.Common.{◌≡◌, ℕ, ◌<◌, ◌≤◌, Bool, true, false, if◌then◌else◌, nat_lt, cond, List, length, drop, ltb, is_ok, Ok, Err, Option, Result, None, Some, sym, refl, ap, ◌∙◌, subst, ⊎_elim, arith}
+use Rattle.std.proofs.Common.{◌≡◌, ℕ, ◌<◌, Bool, true, false, if◌then◌else◌, nat_lt, cond, List, length, drop, ltb, is_ok, Ok, Err, MatchResult, Option, Result, None, Some, sym, refl, ap, ◌∙◌, subst, ⊎_elim, arith}
 use Rattle.std.proofs.lemmas.List.{length-map}
-use Rattle.std.proofs.lemmas.Bool.Decides.{nat_tests}
 use Rattle.std.proofs.lemmas.Bool.{cases_Bool, cond-true, cond-false}
 use Rattle.refusal.specs.declared.Refusal.{Refusal}
 use Rattle.refusal.specs.declared.Refusal.TheVariants.{Outside, WrongLength}
 use Rattle.keys.specs.Kind.{Kind}
 use Rattle.keys.specs.InWords.{WordKind, WordOrdered, in_words}
-use Rattle.memory.specs.Meaning.{Words, after_settle, cut as cut_words, odd_at, renewed, settle_answer}
+use Rattle.memory.specs.Meaning.{Words, after_settle, chosen, odd_at, renewed, settle_answer}
 use Rattle.leaves.specs.declared.leaf.Pair.{Pair}
 use Rattle.leaves.specs.declared.open.Fault.{Fault}
 use Rattle.leaves.specs.Opening.{open_answer}
@@ -253,73 +252,75 @@ like_shape Dark tk blank b tk' like e t = absurd like
 like_shape (Open x) tk blank b tk' like e t = absurd like
 like_shape (Open x) tk dark b tk' like e t = absurd like
 
--- What the test of a choice run's length says.
-short_by : (n m : ℕ) → ltb n m ≡ true → n < m
-short_by n m e = grind (arith, nat_tests)
-
-long_by : (n m : ℕ) → ltb n m ≡ false → m ≤ n
-long_by n m e = grind (arith, nat_tests)
-
 -- What came of a cut.
-pub record CutTold {K : Type 0} (k : Kind K) (cuts : Words → ℕ → (ℕ → ℕ) → Type 0) (choices : List ℕ) (s : State) (from steps : ℕ) (t : Told) (m' : Words) (b : Book) (tk' : Option ℕ) : Type 0 where
+pub record CutTold {K : Type 0} (k : Kind K) (choices : List ℕ) (s : State) (from steps : ℕ) (t : Told) (m' : Words) (b : Book) (tk' : Option ℕ) : Type 0 where
   pub event : Option Event
   pub rightly : Rightly k s event
-  pub happened : Happened k cuts choices s (Cut from steps) event t
+  pub happened : Happened k choices s (Cut from steps) event t
   pub same : Same m' b tk' (onward k s event)
 
-module _ {K : Type 0} (k : Kind K) (cuts : Words → ℕ → (ℕ → ℕ) → Type 0) (choices : List ℕ) (from steps : ℕ) (s : State) (bk : Book) (tk : Option ℕ) (like : Like bk tk s.logbook) (ext : ℕ) (place : ℕ → ℕ) (cut_so : cuts s.memory ext place)
+module _ {K : Type 0} (k : Kind K) (choices : List ℕ) (from steps : ℕ) (s : State) (bk : Book) (tk : Option ℕ) (like : Like bk tk s.logbook)
     (r : Result (Result (Unit {0}) Fault) Refusal) (m' : Words) (b : Book) (tk' : Option ℕ) where
   abbrev choice : List ℕ
   choice = drop from choices
 
   abbrev later : Words
-  later = after_settle s.memory ext place choice steps
+  later = after_settle s.memory choice steps
 
-  cut_in : r ≡ cut_answer (in_words k) (settle_answer ext choice) later.live → m' ≡ later → shape_of b ≡ cut_shape (in_words k) (settle_answer ext choice) later.live (shape_of bk) → tk' ≡ cut_taken (settle_answer ext choice) tk
-      → CutTold k cuts choices s from steps (heard_cut r) m' b tk'
+  abbrev now : Words
+  now = chosen s.memory choice steps
+
+  cut_in : r ≡ cut_answer (in_words k) (settle_answer s.memory choice) later.live → m' ≡ later
+      → shape_of b ≡ cut_shape (in_words k) (settle_answer s.memory choice) later.live (shape_of bk) → tk' ≡ cut_taken (settle_answer s.memory choice) tk
+      → CutTold k choices s from steps (heard_cut r) m' b tk'
   cut_in answer memory state last =
       ⊎_elim
       (λ short.
-      let e : settle_answer ext choice ≡ Err WrongLength = cond-true (ltb (length choice) ext) (Err WrongLength) (Ok tt) short in
-      let stays : later ≡ s.memory = ap (λ (a : Answer). cond (is_ok a) (cut_words (λ i. odd_at choice (place i)) (renewed s.memory.power steps) s.memory) s.memory) e in
+      let e : settle_answer s.memory choice ≡ Err WrongLength = cond-true (ltb (length choice) s.memory.choosing.many) (Err WrongLength) (Ok tt) short in
+      let stays : later ≡ s.memory = ap (λ (a : Answer). cond (is_ok a) now s.memory) e in
       let r_is : r ≡ Err WrongLength = answer ∙ ap (λ a. cut_answer (in_words k) a later.live) e in
       record {
         event = None;
         rightly = tt;
-        happened = ((ext, place, cut_so, short_by (length choice) ext short), ap heard_cut r_is);
+        happened = (e, ap heard_cut r_is);
         same = record {
           memory = sym (memory ∙ stays);
           logbook = like_shape bk tk s.logbook b tk' like (state ∙ ap (λ a. cut_shape (in_words k) a later.live (shape_of bk)) e) (last ∙ ap (λ a. cut_taken a tk) e);
         };
       })
       (λ long.
-      let e : settle_answer ext choice ≡ Ok tt = cond-false (ltb (length choice) ext) (Err WrongLength) (Ok tt) long in
-      let now = cut_words (λ i. odd_at choice (place i)) (renewed s.memory.power steps) s.memory in
+      let e : settle_answer s.memory choice ≡ Ok tt = cond-false (ltb (length choice) s.memory.choosing.many) (Err WrongLength) (Ok tt) long in
       let done : later ≡ now = ap (λ (a : Answer). cond (is_ok a) now s.memory) e in
       let r_is : r ≡ Ok (open_told Blank (open_answer (in_words k) now.live)) = answer ∙ (ap (λ a. cut_answer (in_words k) a later.live) e ∙ ap (λ (w : Words). cut_answer (in_words k) (Ok tt) w.live) done) in
       let shaped : shape_of b ≡ found_shape (in_words k) now.live (open_answer (in_words k) now.live) = state ∙ (ap (λ a. cut_shape (in_words k) a later.live (shape_of bk)) e ∙ ap (λ (w : Words). cut_shape (in_words k) (Ok tt) w.live (shape_of bk)) done) in
       record {
         event = Some (cut_event now.live (renewed s.memory.power steps));
-        rightly = (λ i. odd_at choice (place i), refl);
-        happened = ((ext, place, cut_so, long_by (length choice) ext long, refl), refl, ap heard_cut r_is ∙ opening_heard (open_answer (in_words k) now.live));
+        rightly = (λ i. odd_at choice (s.memory.choosing.place i), refl);
+        happened = (e, refl, refl, ap heard_cut r_is ∙ opening_heard (open_answer (in_words k) now.live));
         same = record {
           memory = sym (memory ∙ done);
           logbook = subst (λ l. Like b l (found_logbook (in_words k) now.live (open_answer (in_words k) now.live))) (sym (last ∙ ap (λ a. cut_taken a tk) e)) (opened_like (in_words k) now.live (open_answer (in_words k) now.live) b shaped);
         };
       })
-      (cases_Bool (ltb (length choice) ext))
+      (cases_Bool (ltb (length choice) s.memory.choosing.many))
 
-pub cut_told : {K : Type 0} (k : Kind K) (cuts : Words → ℕ → (ℕ → ℕ) → Type 0) (choices : List ℕ) (from steps : ℕ) (s : State) (m : Words) (bk : Book) (tk : Option ℕ) → Same m bk tk s → (ext : ℕ) (place : ℕ → ℕ) → cuts m ext place →
-    (r : Result (Result (Unit {0}) Fault) Refusal) (m' : Words) (b : Book) (tk' : Option ℕ)
-    → r ≡ cut_answer (in_words k) (settle_answer ext (drop from choices)) (after_settle m ext place (drop from choices) steps).live → m' ≡ after_settle m ext place (drop from choices) steps
-    → shape_of b ≡ cut_shape (in_words k) (settle_answer ext (drop from choices)) (after_settle m ext place (drop from choices) steps).live (shape_of bk) → tk' ≡ cut_taken (settle_answer ext (drop from choices)) tk
-    → CutTold k cuts choices s from steps (heard_cut r) m' b tk'
-cut_told k cuts choices from steps s m bk tk same ext place so r m' b tk' answer memory state last =
+pub cut_told : {K : Type 0} (k : Kind K) (choices : List ℕ) (from steps : ℕ) (s : State) (m : Words) (bk : Book) (tk : Option ℕ) → Same m bk tk s
+    → (r : Result (Result (Unit {0}) Fault) Refusal) (m' : Words) (b : Book) (tk' : Option ℕ)
+    → r ≡ cut_answer (in_words k) (settle_answer m (drop from choices)) (after_settle m (drop from choices) steps).live → m' ≡ after_settle m (drop from choices) steps
+    → shape_of b ≡ cut_shape (in_words k) (settle_answer m (drop from choices)) (after_settle m (drop from choices) steps).live (shape_of bk)
+    → tk' ≡ cut_taken (settle_answer m (drop from choices)) tk → CutTold k choices s from steps (heard_cut r) m' b tk'
+cut_told k choices from steps s m bk tk same r m' b tk' answer memory state last =
     let e = sym same.memory in
-    cut_in k cuts choices from steps s bk tk same.logbook ext place (subst (λ w. cuts w ext place) e so) r m' b tk'
-    (subst (λ w. r ≡ cut_answer (in_words k) (settle_answer ext (drop from choices)) (after_settle w ext place (drop from choices) steps).live) e answer)
-    (subst (λ w. m' ≡ after_settle w ext place (drop from choices) steps) e memory)
-    (subst (λ w. shape_of b ≡ cut_shape (in_words k) (settle_answer ext (drop from choices)) (after_settle w ext place (drop from choices) steps).live (shape_of bk)) e state) last
+    cut_in k choices from steps s bk tk same.logbook r m' b tk'
+    (subst (λ w. r ≡ cut_answer (in_words k) (settle_answer w (drop from choices)) (after_settle w (drop from choices) steps).live) e answer)
+    (subst (λ w. m' ≡ after_settle w (drop from choices) steps) e memory)
+    (subst (λ w. shape_of b ≡ cut_shape (in_words k) (settle_answer w (drop from choices)) (after_settle w (drop from choices) steps).live (shape_of bk)) e state)
+    (subst (λ w. tk' ≡ cut_taken (settle_answer w (drop from choices)) tk) e last)
+
+-- What holds where a cut happened, and was kept where it did not.
+pub either_way : {A P Q : Type 0} (r : Result A Refusal) → MatchResult r (λ _. P) (λ _. Q → P) → Q → P
+either_way (Ok x) holds was = holds
+either_way (Err e) holds was = holds was
 
 -- A remove ends as a call does.
 pub ends_so : (m : Words) (p : Shape) (tk : Option ℕ) (a : Result Removed Halt) (had : Option ℕ) (e : Ending) → RemovalEnds m p tk a had e → ending e.answer m p tk ≡ e

@@ -23,9 +23,9 @@ use Rattle.session.specs.declared.act.Told.{Told}
 use Rattle.session.specs.Playing.{Happened, Played, events, onward}
 use Rattle.session.specs.Sessions.{Carried, CarriedAll, Rightly, Same, Session, onward_all}
 
-module _ {K : Type 0} (k : Kind K) (cuts : Words → ℕ → (ℕ → ℕ) → Type 0) (choices : List ℕ) where
+module _ {K : Type 0} (k : Kind K) (choices : List ℕ) where
   played_more : (s : State) (acts : List (Act K)) (es : List (Option Event)) (ts : List Told) (a : Act K) (e : Option Event) (t : Told)
-      → Played k cuts choices s acts es ts → Happened k cuts choices (onward_all k s es) a e t → Played k cuts choices s (acts ++ (a ∷ [])) (es ++ (e ∷ [])) (ts ++ (t ∷ []))
+      → Played k choices s acts es ts → Happened k choices (onward_all k s es) a e t → Played k choices s (acts ++ (a ∷ [])) (es ++ (e ∷ [])) (ts ++ (t ∷ []))
   played_more s [] [] [] a e t h g = (g, tt)
   played_more s (b ∷ acts) (f ∷ es) (u ∷ ts) a e t h g = (h.0, played_more (onward k s f) acts es ts a e t h.1 g)
   played_more s [] (f ∷ es) ts a e t h g = absurd h
@@ -44,7 +44,7 @@ module _ {K : Type 0} (k : Kind K) (cuts : Words → ℕ → (ℕ → ℕ) → T
   onward_more s (f ∷ es) e = onward_more (onward k s f) es e
 
   pub all_more : (s : State) (acts : List (Act K)) (ts : List Told) (m : Words) (b : Book) (tk : Option ℕ) (a : Act K) (t : Told) (m' : Words) (b' : Book) (tk' : Option ℕ)
-      → (all : CarriedAll k cuts choices s acts ts m b tk) → Carried k cuts choices (onward_all k s all.happened) a t m' b' tk' → CarriedAll k cuts choices s (acts ++ (a ∷ [])) (ts ++ (t ∷ [])) m' b' tk'
+      → (all : CarriedAll k choices s acts ts m b tk) → Carried k choices (onward_all k s all.happened) a t m' b' tk' → CarriedAll k choices s (acts ++ (a ∷ [])) (ts ++ (t ∷ [])) m' b' tk'
   all_more s acts ts m b tk a t m' b' tk' all one = record {
     happened = all.happened ++ (one.event ∷ []);
     history = history_more s all.happened one.event all.history one.rightly;
@@ -88,9 +88,9 @@ granted_so : (o : WordKind) (m : Words) (n : ℕ) → Settled m → (format_run 
 granted_so o m n settled ended = let so = formatted_so o m n ended in record { settled = settled; roomy = so.roomy; granted = so.granted }
 
 -- The promise of a list.
-pub promised : {K : Type 0} (k : Kind K) (cuts : Words → ℕ → (ℕ → ℕ) → Type 0) → WordOrdered (in_words k) → (m : Words) (n : ℕ) (choices : List ℕ) (acts : List (Act K)) (ts : List Told) (m' : Words) (b : Book) (tk : Option ℕ) (memory : Words)
-    → (format_run (in_words k) Blank m n).ended ≡ Ok tt → CarriedAll k cuts choices (after_format (in_words k) m n) acts ts m' b tk → m' ≡ memory → Session k cuts m n choices acts ts memory
-promised k cuts ordered m n choices acts ts m' b tk memory ended all is = record {
+pub promised : {K : Type 0} (k : Kind K) → WordOrdered (in_words k) → (m : Words) (n : ℕ) (choices : List ℕ) (acts : List (Act K)) (ts : List Told) (m' : Words) (b : Book) (tk : Option ℕ) (memory : Words)
+    → (format_run (in_words k) Blank m n).ended ≡ Ok tt → CarriedAll k choices (after_format (in_words k) m n) acts ts m' b tk → m' ≡ memory → Session k m n choices acts ts memory
+promised k ordered m n choices acts ts m' b tk memory ended all is = record {
   happened = all.happened;
   played = all.played;
   history = all.history;

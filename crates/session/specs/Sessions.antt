@@ -38,26 +38,26 @@ onward_all k s [] = s
 onward_all k s (e ∷ es) = onward_all k (onward k s e) es
 
 -- What one act comes to, from a sound logbook: what happens is told, and the logbook is as the history tells it, and sound.
-pub record Carried {K : Type 0} (k : Kind K) (cuts : Words → ℕ → (ℕ → ℕ) → Type 0) (choices : List ℕ) (s : State) (act : Act K) (told : Told) (m : Words) (book : Book) (taken : Option ℕ) : Type 0 where
+pub record Carried {K : Type 0} (k : Kind K) (choices : List ℕ) (s : State) (act : Act K) (told : Told) (m : Words) (book : Book) (taken : Option ℕ) : Type 0 where
   pub event : Option Event
   pub rightly : Rightly k s event
-  pub happened : Happened k cuts choices s act event told
+  pub happened : Happened k choices s act event told
   pub same : Same m book taken (onward k s event)
   pub sound : Sound (in_words k) m.live book
 
 -- What some acts come to, one after the other.
-pub record CarriedAll {K : Type 0} (k : Kind K) (cuts : Words → ℕ → (ℕ → ℕ) → Type 0) (choices : List ℕ) (s : State) (acts : List (Act K)) (answers : List Told) (m : Words) (book : Book) (taken : Option ℕ) : Type 0 where
+pub record CarriedAll {K : Type 0} (k : Kind K) (choices : List ℕ) (s : State) (acts : List (Act K)) (answers : List Told) (m : Words) (book : Book) (taken : Option ℕ) : Type 0 where
   pub happened : List (Option Event)
   pub history : History by_rule (in_words k) s (events happened)
-  pub played : Played k cuts choices s acts happened answers
+  pub played : Played k choices s acts happened answers
   pub same : Same m book taken (onward_all k s happened)
   pub sound : Sound (in_words k) m.live book
 
 -- THE PROMISE of a list played after a granted format: a history in which each act happened and this was told of it, and, where the
 -- memory was settled before, the law of cuts at each event.
-pub record Session {K : Type 0} (k : Kind K) (cuts : Words → ℕ → (ℕ → ℕ) → Type 0) (m : Words) (leaves : ℕ) (choices : List ℕ) (acts : List (Act K)) (answers : List Told) (memory : Words) : Type 0 where
+pub record Session {K : Type 0} (k : Kind K) (m : Words) (leaves : ℕ) (choices : List ℕ) (acts : List (Act K)) (answers : List Told) (memory : Words) : Type 0 where
   pub happened : List (Option Event)
-  pub played : Played k cuts choices (after_format (in_words k) m leaves) acts happened answers
+  pub played : Played k choices (after_format (in_words k) m leaves) acts happened answers
   pub history : History by_rule (in_words k) (after_format (in_words k) m leaves) (events happened)
   pub law : Settled m → HistoryLaw by_rule (in_words k) (after_format (in_words k) m leaves) (plain []) (events happened)
   -- The memory that is given back is the one that the history comes to.

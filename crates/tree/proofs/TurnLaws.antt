@@ -8,7 +8,8 @@ use Rattle.refusal.specs.declared.Refusal.{Refusal}
 use Rattle.keys.specs.InWords.{WordKind, WordOrdered}
 use Rattle.memory.specs.Meaning.{Words}
 use Rattle.leaves.specs.declared.leaf.Element.{Element}
-use Rattle.leaves.specs.Asking.{count_answer, counted, elements_told, granted}
+use Rattle.leaves.specs.declared.leaf.Seen.{Seen}
+use Rattle.leaves.specs.Asking.{count_answer, counted, elements_told, granted, seen}
 use Rattle.leaves.specs.Layout.{Within, count_of, elements}
 use Rattle.leaves.specs.Pairs.{latest, lookup}
 use Rattle.leaves.proofs.ElementLaws.{lookup_pairs}
@@ -42,6 +43,9 @@ same_some a b e = cc
 pub same_elements : (v : FixedVec Element 16) (es : List Element) → elements_told (Ok v) ≡ Ok es → items v ≡ es
 same_elements v es e = cc
 
+ok_same : (a b : Seen) → ◌≡◌ {A = Result Seen Refusal} (Ok a) (Ok b) → a ≡ b
+ok_same a b e = cc
+
 counted_within : (m : List ℕ) (k n : ℕ) → count_answer m k ≡ Ok n → Within m k
 counted_within m k n e = (grind (arith, nat_tests), grind (arith, nat_tests), grind (arith, nat_tests))
 
@@ -65,6 +69,13 @@ module _ (o : WordKind) (ordered : WordOrdered o) (m : List ℕ) (x : Index) (w 
   -- What is read of the leaf is what it counts, and what it says of the key is what the book says.
   pub elements_here : (r : Result (FixedVec Element 16) Refusal) → elements_told r ≡ counted m h.leaf (elements m h.leaf) → elements_told r ≡ Ok (elements m h.leaf (count_of m h.leaf))
   elements_here r e = e ∙ ap (λ n. granted n (elements m h.leaf)) placed_here.counted
+
+  -- What is seen of the leaf.
+  pub seen_here : (s : Seen) (v : ℕ × ℕ) → ◌≡◌ {A = Result Seen Refusal} (Ok s) (counted m h.leaf (seen m h.leaf v)) → s ≡ seen m h.leaf v (count_of m h.leaf)
+  seen_here s v e = ok_same s _ (e ∙ ap (λ n. granted n (seen m h.leaf v)) placed_here.counted)
+
+  pub seen_never : (e : Refusal) (v : ℕ × ℕ) → ◌≡◌ {A = Result Seen Refusal} (Err e) (counted m h.leaf (seen m h.leaf v)) → ◌≡◌ {A = Result Seen Refusal} (Ok (seen m h.leaf v (count_of m h.leaf))) (Err e)
+  seen_never e v is = sym (is ∙ ap (λ n. granted n (seen m h.leaf v)) placed_here.counted)
 
   pub held_here : (es : List Element) → es ≡ elements m h.leaf (count_of m h.leaf) → latest w es ≡ lookup w (pairs_of o m h.leaf)
   held_here es e = ap (latest w) e ∙ lookup_pairs o ordered w m h.leaf (count_of m h.leaf)

@@ -34,7 +34,7 @@ granted_steps_hold o m before commit ks ps new (settled, (old, held)) t ended =
     (enough_or_short m.power (cost (change before commit)))
 
 pub cut_steps_hold : CutStep
-cut_steps_hold o m before commit ks ps new (settled, (old, held)) t words cut through power =
+cut_steps_hold o m before commit ks ps new (settled, (old, held)) t words cut power =
     let turned = turns_hold o m before commit old ks new settled held.0 t in
     ⊎_elim
     (λ yes. (refl, (ks, subst (λ b. HoldsBook o words ks (cond b new ps)) (sym yes) (turned.if_new words cut (eqb-true _ _ yes)))))

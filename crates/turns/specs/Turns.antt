@@ -44,9 +44,9 @@ Honest o m ps = Settled m × ((ks : List ℕ) × HoldsBook o m.live ks ps)
 abbrev pub stands_new : Store → List ℕ → Bool
 stands_new commit words = slice_index words commit.at == commit.word
 
--- The settled memory of these words, as a cut that left them makes it.
-abbrev pub settled_on : List ℕ → Bool → Power → Words
-settled_on words through power = record { live = words; firm = words; through = through; power = power }
+-- A memory settled on these words, as a cut that left them makes it.
+abbrev pub settled_on : Words → List ℕ → Power → Words
+settled_on m words power = record { live = words; firm = words; through = m.through; power = power; choosing = m.choosing }
 
 -- One step of a history: a turn that is granted makes its book.
 abbrev pub GrantedStep : Type 0
@@ -60,5 +60,5 @@ abbrev pub CutStep : Type 0
 CutStep =
     (o : WordKind) (m : Words) (before : List LineWrite) (commit : Store) (ks : List ℕ) (ps new : List Pair) →
     Honest o m ps → Turns o m.live before commit ks new →
-    (words : List ℕ) → Cut (perform m (change before commit)).after words → (through : Bool) (power : Power) →
-    Honest o (settled_on words through power) (cond (stands_new commit words) new ps)
+    (words : List ℕ) → Cut (perform m (change before commit)).after words → (power : Power) →
+    Honest o (settled_on m words power) (cond (stands_new commit words) new ps)

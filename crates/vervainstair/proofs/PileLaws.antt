@@ -1,9 +1,9 @@
 -- A margin of no line shows the memory below as it is, so a pile means the layers that were named.
-use Rattle.std.proofs.Common.{◌≡◌, ℕ, ◌+◌, ◌-◌, ◌*◌, ◌/◌, ◌%◌, ◌≤◌, List, [], ◌∷◌, length, sym, refl, ◌∙◌, arith}
+use Rattle.std.proofs.Common.{◌≡◌, ℕ, ◌+◌, ◌-◌, ◌*◌, ◌/◌, ◌%◌, ◌≤◌, List, [], ◌∷◌, length, sym, refl, ap, ◌∙◌, arith}
 use Rattle.std.specs.Prelude.{slice_index_or}
-use Rattle.memory.specs.Meaning.{Lawful, Words}
+use Rattle.memory.specs.Meaning.{Choosing, Lawful, Words}
 use Rattle.memory.proofs.Words.{is_tabled, words_by}
-use Rattle.layers.specs.Layers.{layered, layered_lawful, shown}
+use Rattle.layers.specs.Layers.{layered, layered_lawful, place, shown}
 use Rattle.layers.specs.Chosen.{numbered}
 use Rattle.layers.specs.declared.chosen.Sort.{Sort}
 use Rattle.layers.specs.declared.layer.Layer.{Layer}
@@ -16,8 +16,17 @@ none = Hides 0
 shown_all : (xs : List ℕ) (n : ℕ) → length xs ≡ n → shown (λ l. l + 0) n xs ≡ xs
 shown_all xs n e = sym (is_tabled xs n _ e (λ k h. let same : 8 * (k / 8 + 0) + k % 8 ≡ k = omega arith in rw same refl))
 
+-- A layer that hides nothing leaves each choice where it was.
+in_order : (i : ℕ) → place (λ l. l + 0) i ≡ i
+in_order i = omega arith
+
+choosing_same : (c : Choosing) → record { many = c.many; place = λ i. c.place (place (λ l. l + 0) i) } ≡ c
+choosing_same c = ap (λ (f : ℕ → ℕ). record { many = c.many; place = f }) (λ j i. c.place (in_order i j))
+
 bare : {m : Words} → Lawful m → layered (numbered none) m ≡ m
-bare {m} laws = words_by m.through m.power (shown_all m.live (length m.live - 0) (omega arith)) (shown_all m.firm (length m.live - 0) (omega (arith, laws.level)))
+bare {m} laws =
+    words_by m.through m.power _ (shown_all m.live (length m.live - 0) (omega arith)) (shown_all m.firm (length m.live - 0) (omega (arith, laws.level)))
+    ∙ ap (λ (c : Choosing). record { live = m.live; firm = m.firm; through = m.through; power = m.power; choosing = c }) (choosing_same m.choosing)
 
 abbrev pub at : List Sort → ℕ → Sort
 at ss i = slice_index_or ss i none

@@ -1,12 +1,10 @@
 -- What a script's logbook answers to a cut of the supply.
 use Rattle.std.specs.Prelude.{◌≡◌, ℕ, List, Ok, Err, Result}
 use Rattle.refusal.specs.declared.Refusal.{Refusal}
-use Rattle.memory.specs.Meaning.{Words, after_settle, settle_answer, size_of}
+use Rattle.memory.specs.Meaning.{Words, after_settle, settle_answer}
 use Rattle.keys.specs.InWords.{WordKind, in_words}
 use Rattle.keys.specs.Ports.{port_kind}
 use Rattle.keys.specs.Stamps.{stamp_kind}
-use Rattle.layers.specs.Chosen.{numbered}
-use Rattle.layers.specs.Layers.{layered, place}
 use Rattle.layers.specs.declared.chosen.Sort.{Sort}
 use Rattle.layers.specs.declared.layer.Layer.{Layer}
 use Rattle.leaves.specs.Opening.{plain}
@@ -26,25 +24,14 @@ abbrev pub cut_told : Result (Result (Unit {0}) Fault) Refusal → Result Told T
 cut_told (Ok answer) = opened answer
 cut_told (Err e) = Err (Refused (plain e))
 
--- A layer's word lies on a word below, of a memory that means m.
-abbrev pub on : Sort → Words → ℕ → ℕ
-on sort m i = place ((numbered sort).line (size_of m)) i
-
-module _ {B : Type 0} (means : B → Words) (extent : B → ℕ) (origin : B → ℕ → ℕ) where
-  -- The word of the make at the bottom that a word of the pile lies on.
-  abbrev pub pile_origin : Layer Sort (Layer Sort (Layer Sort B)) → ℕ → ℕ
-  pile_origin p i =
-      origin p.below.below.below (on p.below.below.numbering (means p.below.below.below)
-      (on p.below.numbering (layered (numbered p.below.below.numbering) (means p.below.below.below))
-      (on p.numbering (layered (numbered p.below.numbering) (layered (numbered p.below.below.numbering) (means p.below.below.below))) i)))
-
+module _ {B : Type 0} (means : B → Words) where
   -- The pile settled by the choices, with new steps.
   abbrev pub settled : List ℕ → ℕ → Layer Sort (Layer Sort (Layer Sort B)) → Words
-  settled choice steps p = after_settle (pile_words means p) (extent p.below.below.below) (pile_origin p) choice steps
+  settled choice steps p = after_settle (pile_words means p) choice steps
 
   -- What a kind of key finds in the settled words.
   abbrev pub cut_open : WordKind → List ℕ → ℕ → Layer Sort (Layer Sort (Layer Sort B)) → Result Told Trouble
-  cut_open o choice steps p = cut_told (cut_answer o (settle_answer (extent p.below.below.below) choice) (settled choice steps p).live)
+  cut_open o choice steps p = cut_told (cut_answer o (settle_answer (pile_words means p) choice) (settled choice steps p).live)
 
   -- A cut needs a kind of key.
   abbrev pub BookCuts : List ℕ → ℕ → Book B → Result Told Trouble → Type 0

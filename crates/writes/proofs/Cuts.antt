@@ -7,15 +7,15 @@ use Rattle.writes.specs.Writes.{Store, Run, LineWrite, perform, cost, applied, f
 use Rattle.writes.specs.Laws.{Enough, Below, Cut, Alike, Whole, Short, PowerAlone, BrokenOff, change, New, Atomic, Commit, Kept, Observed}
 use Rattle.writes.proofs.Mixes.{same_cond, picked_one, get_or_picked, length_picked, mix_of, mix_each, length_mix, applied_spared, line_spared, some_stores, length_applied}
 use Rattle.writes.proofs.Runs as runs
-use Rattle.writes.proofs.Runs.{mem, Stop}
+use Rattle.writes.proofs.Runs.{Make, made, mem, Stop}
 
-settled_is : (m : Words) (p : Power) → Settled m → m.power ≡ p → mem m.live m.live m.through p ≡ m
-settled_is m p s e = ap (λ (b : List ℕ). mem m.live b m.through p) s ∙ ap (λ (q : Power). mem m.live m.firm m.through q) (sym e)
+settled_is : (m : Words) (p : Power) → Settled m → m.power ≡ p → mem m.live m.live (made m) p ≡ m
+settled_is m p s e = ap (λ (b : List ℕ). mem m.live b (made m) p) s ∙ ap (λ (q : Power). mem m.live m.firm (made m) q) (sym e)
 
 pub whole_holds : Whole
 unfolding perform
 whole_holds m ws s h n =
-    ap (λ (x : Words). perform x ws) (sym (settled_is m m.power s refl)) ∙ runs.whole (length m.live) ws m.live m.through m.power refl h n
+    ap (λ (x : Words). perform x ws) (sym (settled_is m m.power s refl)) ∙ runs.whole (length m.live) ws m.live (made m) m.power refl h n
 
 pub length_finished : (w : List ℕ) (ws : List LineWrite) → length (finished w ws) ≡ length w
 length_finished w [] = refl
@@ -37,18 +37,18 @@ inside_length : (ss : List Store) (b : List ℕ) (t : Bool) (f : ℕ → Bool) �
 inside_length ss b true f = length_picked f (applied b ss) (applied b ss) ∙ length_applied b ss
 inside_length ss b false f = length_picked f (applied b ss) b ∙ length_applied b ss
 
-stop_words : (w : List ℕ) (t : Bool) (ws : List LineWrite) (n : ℕ) (s : Stop (length w) w t ws n) (words : List ℕ) (c : Cut (perform (mem w w t (left n)) ws).after words)
+stop_words : (w : List ℕ) (t : Make) (ws : List LineWrite) (n : ℕ) (s : Stop (length w) w t ws n) (words : List ℕ) (c : Cut (perform (mem w w t (left n)) ws).after words)
     → words ≡ picked c.0 (applied (finished w (take s.whole ws)) (take s.made s.part.stores))
-    (cond t (applied (finished w (take s.whole ws)) (take s.made s.part.stores)) (finished w (take s.whole ws)))
+    (cond t.through (applied (finished w (take s.whole ws)) (take s.made s.part.stores)) (finished w (take s.whole ws)))
 unfolding perform
 stop_words w t ws n s words c = c.1 ∙ ap (λ (r : Run). picked c.0 r.after.live r.after.firm) s.is
 
-stop_each : (w : List ℕ) (t : Bool) (ws : List LineWrite) (n : ℕ) (s : Stop (length w) w t ws n) (words : List ℕ) → Cut (perform (mem w w t (left n)) ws).after words → (i : ℕ)
+stop_each : (w : List ℕ) (t : Make) (ws : List LineWrite) (n : ℕ) (s : Stop (length w) w t ws n) (words : List ℕ) → Cut (perform (mem w w t (left n)) ws).after words → (i : ℕ)
     → (get_or words i 0 ≡ get_or (finished w (take s.whole ws)) i 0) ⊎ (get_or words i 0 ≡ get_or (applied (finished w (take s.whole ws)) s.part.stores) i 0)
 stop_each w t ws n s words c i =
-    rw (stop_words w t ws n s words c) (inside (length w) s.part.line s.part.stores s.made (finished w (take s.whole ws)) t c.0 s.lined i)
+    rw (stop_words w t ws n s words c) (inside (length w) s.part.line s.part.stores s.made (finished w (take s.whole ws)) t.through c.0 s.lined i)
 
-stop_broken : (w : List ℕ) (t : Bool) (ws : List LineWrite) (n : ℕ) → Stop (length w) w t ws n → BrokenOff (mem w w t (left n)) ws n
+stop_broken : (w : List ℕ) (t : Make) (ws : List LineWrite) (n : ℕ) → Stop (length w) w t ws n → BrokenOff (mem w w t (left n)) ws n
 unfolding perform
 stop_broken w t ws n s =
     let b = finished w (take s.whole ws) in
@@ -63,14 +63,14 @@ stop_broken w t ws n s =
       within = s.within;
       not_before = omega (arith, s.count);
       not_after = omega (arith, s.count, s.after_cost, s.few);
-      torn = λ words c. rw s.after_words (_, mix_of (applied b s.part.stores) b words (length_applied b s.part.stores) (ap length (now-is words c) ∙ inside_length few b t c.0) (each words c));
+      torn = λ words c. rw s.after_words (_, mix_of (applied b s.part.stores) b words (length_applied b s.part.stores) (ap length (now-is words c) ∙ inside_length few b t.through c.0) (each words c));
       line = s.part.line;
       elsewhere = λ words c i n. ⊎_elim (λ e. e) (λ e. e ∙ applied_spared b s.part.stores i (line_spared (length w) s.part.line s.part.stores i s.lined n)) (each words c i);
     }
 
 pub short_holds : Short
 short_holds m ws n s h p c =
-    subst (λ (x : Words). BrokenOff x ws n) (settled_is m (left n) s p) (stop_broken m.live m.through ws n (runs.short (length m.live) ws m.live m.through n refl h c))
+    subst (λ (x : Words). BrokenOff x ws n) (settled_is m (left n) s p) (stop_broken m.live (made m) ws n (runs.short (length m.live) ws m.live (made m) n refl h c))
 
 spares_take : (k i : ℕ) (ws : List LineWrite) → Spares i ws → Spares i (take k ws)
 spares_take zero i ws h = tt
@@ -191,7 +191,7 @@ pub atomic_after : (m after : Words) (before : List LineWrite) (commit : Store) 
 atomic_after m after before c e = subst (λ (x : Words). Atomic m x before c) (sym e) (commit_holds m before c)
 
 -- With one step less than the commit's store wants, its word is old.
-unreached : (w : List ℕ) (t : Bool) (before : List LineWrite) (c : Store) (n : ℕ) → Stop (length w) w t (change before c) n
+unreached : (w : List ℕ) (t : Make) (before : List LineWrite) (c : Store) (n : ℕ) → Stop (length w) w t (change before c) n
     → n ≤ cost before → Spares c.at before → (words : List ℕ) → Cut (perform (mem w w t (left n)) (change before c)).after words
     → get_or words c.at 0 ≡ get_or w c.at 0
 unreached w t before c n s few spares words cut = ⊎_elim early last (cases_lt s.whole (length before))
@@ -212,7 +212,7 @@ unreached w t before c n s few spares words cut = ⊎_elim early last (cases_lt 
         let here : take s.whole (change before c) ≡ before = take_at before (single c ∷ []) s.whole (omega (arith, s.within)) in
         let none : s.made ≡ 0 = omega (arith, ap cost here, s.count) in
         let is = simp (here, none) at (stop_words w t (change before c) n s words cut) in
-        let one = ap (picked cut.0 (finished w before)) (same_cond t (finished w before)) ∙ picked_one cut.0 (finished w before) in
+        let one = ap (picked cut.0 (finished w before)) (same_cond t.through (finished w before)) ∙ picked_one cut.0 (finished w before) in
         ap (λ (x : List ℕ). get_or x c.at 0) (is ∙ one) ∙ finished_spares w before c.at spares
 
 below_left : (p q : Power) (x : ℕ) → q ≡ left x → Below p q → (a : ℕ) × (p ≡ left a) × (a < x)
@@ -231,9 +231,9 @@ kept_holds m n before c ready spares r same below words cut new =
     (λ few.
     let p = below_left m.power n.power few.0 few.1 below in
     let less : p.0 ≤ cost before = omega (arith, cost_last before c, few.2, p.2) in
-    let stop = runs.short (length m.live) ws m.live m.through p.0 refl h (omega (arith, cost_last before c)) in
+    let stop = runs.short (length m.live) ws m.live (made m) p.0 refl h (omega (arith, cost_last before c)) in
     let cut' = subst (λ (x : Words). Cut (perform x ws).after words) (sym (settled_is m (left p.0) s p.1)) cut in
-    absurd (differs (sym (unreached m.live m.through before c p.0 stop less spares words cut') ∙ new)))
+    absurd (differs (sym (unreached m.live (made m) before c p.0 stop less spares words cut') ∙ new)))
     (enough_or n.power (cost ws))
 
 pub observed_holds : (X : Type 0) → Observed X

@@ -2,13 +2,21 @@
 use Rattle.std.proofs.Common.{◌≡◌, ℕ, zero, suc, ◌+◌, ◌-◌, ◌*◌, ◌<◌, ◌≤◌, Bool, true, false, cond, List, [], ◌∷◌, ◌++◌, length, get_or, take, set, Ok, Err, sym, refl, ap, ◌∙◌, ⊎_elim, zero-add, arith, length-set, get_or-set_other}
 use Rattle.std.proofs.lemmas.Bool.{cond_both, cases_lt, eq-eqb, ne_eqb, lt-leb}
 use Rattle.refusal.specs.declared.Refusal.TheVariants.{NoPower}
-use Rattle.memory.specs.Meaning.{Words, Power, endless, left, exhausted, spent, picked, store_answer, flush_answer}
+use Rattle.memory.specs.Meaning.{Choosing, Words, Power, endless, left, exhausted, spent, picked, store_answer, flush_answer}
 use Rattle.writes.specs.Writes.{Store, Op, Run, fall, tick, run, LineWrite, line_ops, all_ops, cost, applied, finished, Spared, Lined, Proper}
 use Rattle.writes.specs.Laws.{Enough}
 use Rattle.writes.proofs.Mixes.{in_line, same_cond, picked_one, flush_settles, length_applied}
 
-abbrev pub mem : List ℕ → List ℕ → Bool → Power → Words
-mem a b t p = record { live = a; firm = b; through = t; power = p }
+-- What no call changes of a memory.
+pub record Make : Type 0 where
+  pub through : Bool
+  pub choosing : Choosing
+
+abbrev pub made : Words → Make
+made m = record { through = m.through; choosing = m.choosing }
+
+abbrev pub mem : List ℕ → List ℕ → Make → Power → Words
+mem a b t p = record { live = a; firm = b; through = t.through; power = p; choosing = t.choosing }
 
 -- So many steps more.
 abbrev pub plus : ℕ → Run → Run
@@ -52,7 +60,7 @@ pub enough_first : (p : Power) (j k : ℕ) → Enough p (j + k) → Enough p j
 enough_first endless j k h = tt
 enough_first (left n) j k h = omega arith
 
-module _ (a b : List ℕ) (t : Bool) (p : Power) where
+module _ (a b : List ℕ) (t : Make) (p : Power) where
   store_granted : (i : ℕ) → i < length a → get_or a i 0 ≡ get_or b i 0 → exhausted p ≡ false → store_answer (mem a b t p) i ≡ Ok tt
   store_granted i h e d = let x = lt-leb (length a) i h in let y = eq-eqb _ _ e in cc
 
@@ -88,14 +96,14 @@ firm_more true b c ss = refl
 firm_more false b c ss = refl
 
 -- A line write with enough power.
-line_whole : (size l : ℕ) (ss : List Store) (a b : List ℕ) (t : Bool) (p : Power) (rest : List Op)
+line_whole : (size l : ℕ) (ss : List Store) (a b : List ℕ) (t : Make) (p : Power) (rest : List Op)
     → length a ≡ size → 8 * l < size → Lined size l ss → Agree a b ss → Enough p (suc (length ss))
     → run (mem a b t p) (line_ops l ss ++ rest)
-    ≡ plus (suc (length ss)) (run (mem (applied a ss) (picked (in_line l) (applied a ss) (cond t (applied b ss) b)) t (fall p (suc (length ss)))) rest)
+    ≡ plus (suc (length ss)) (run (mem (applied a ss) (picked (in_line l) (applied a ss) (cond t.through (applied b ss) b)) t (fall p (suc (length ss)))) rest)
 unfolding run
 line_whole size l [] a b t p rest e i h g n =
     let x = flush_granted a b t p l (omega arith) (alive p 0 n) in
-    let y : picked (in_line l) a (cond t b b) ≡ picked (in_line l) a b = ap (picked (in_line l) a) (same_cond t b) in
+    let y : picked (in_line l) a (cond t.through b b) ≡ picked (in_line l) a b = ap (picked (in_line l) a) (same_cond t.through b) in
     let z = spent_is p in
     cc
 line_whole size l (s ∷ ss) a b t p rest e i h g n =
@@ -104,42 +112,44 @@ line_whole size l (s ∷ ss) a b t p rest e i h g n =
     let b' = set b s.at s.word in
     let x = store_granted a b t p s.at (rw e h.0) g.0 (alive p k n) in
     let f = spent_fall p k in
-    let d = ap (picked (in_line l) (applied a' ss)) (firm_more t b b' ss) in
-    let y = line_whole size l ss a' (cond t b' b) t (spent p) rest
-    (length-set a s.at s.word ∙ e) i h.3 (agree_store a b t s.at s.word ss h.2 g.1) (enough_spent p k n) in
+    let d = ap (picked (in_line l) (applied a' ss)) (firm_more t.through b b' ss) in
+    let y = line_whole size l ss a' (cond t.through b' b) t (spent p) rest
+    (length-set a s.at s.word ∙ e) i h.3 (agree_store a b t.through s.at s.word ss h.2 g.1) (enough_spent p k n) in
     cc
 
 -- A line write that the power does not reach the end of.
-line_short : (size l : ℕ) (ss : List Store) (n : ℕ) (a b : List ℕ) (t : Bool) (rest : List Op)
+line_short : (size l : ℕ) (ss : List Store) (n : ℕ) (a b : List ℕ) (t : Make) (rest : List Op)
     → length a ≡ size → 8 * l < size → Lined size l ss → Agree a b ss → n ≤ length ss
     → run (mem a b t (left n)) (line_ops l ss ++ rest)
-    ≡ record { after = mem (applied a (take n ss)) (cond t (applied b (take n ss)) b) t (left 0); steps = n; ended = Err NoPower }
+    ≡ record { after = mem (applied a (take n ss)) (cond t.through (applied b (take n ss)) b) t (left 0); steps = n; ended = Err NoPower }
 unfolding run
 line_short size l [] zero a b t rest e i h g n =
-    let x = flush_refused a b t (left 0) l (omega arith) refl in let y = same_cond t b in cc
+    let x = flush_refused a b t (left 0) l (omega arith) refl in let y = same_cond t.through b in cc
 line_short size l [] (suc k) a b t rest e i h g n = absurd (omega arith)
 line_short size l (s ∷ ss) zero a b t rest e i h g n =
-    let x = store_refused a b t (left 0) s.at (rw e h.0) refl in let y = same_cond t b in cc
+    let x = store_refused a b t (left 0) s.at (rw e h.0) refl in let y = same_cond t.through b in cc
 line_short size l (s ∷ ss) (suc k) a b t rest e i h g n =
     let a' = set a s.at s.word in
     let b' = set b s.at s.word in
     let x = store_granted a b t (left (suc k)) s.at (rw e h.0) g.0 (ne_eqb (suc k) 0 (omega arith)) in
     let f : suc k - 1 ≡ k = omega arith in
-    let d = firm_more t b b' (take k ss) in
-    let y = line_short size l ss k a' (cond t b' b) t rest
-    (length-set a s.at s.word ∙ e) i h.3 (agree_store a b t s.at s.word ss h.2 g.1) (omega arith) in
+    let d = firm_more t.through b b' (take k ss) in
+    let y = line_short size l ss k a' (cond t.through b' b) t rest
+    (length-set a s.at s.word ∙ e) i h.3 (agree_store a b t.through s.at s.word ss h.2 g.1) (omega arith) in
     cc
 
 -- One line write of a settled memory.
-line_done : (size l : ℕ) (ss : List Store) (w : List ℕ) (t : Bool) (p : Power) (rest : List Op)
+line_kept : (size l : ℕ) (ss : List Store) (w : List ℕ) (t : Bool) → Lined size l ss → picked (in_line l) (applied w ss) (cond t (applied w ss) w) ≡ applied w ss
+line_kept size l ss w true h = picked_one (in_line l) (applied w ss)
+line_kept size l ss w false h = flush_settles size l w ss h
+
+line_done : (size l : ℕ) (ss : List Store) (w : List ℕ) (t : Make) (p : Power) (rest : List Op)
     → length w ≡ size → 8 * l < size → Lined size l ss → Enough p (suc (length ss))
     → run (mem w w t p) (line_ops l ss ++ rest) ≡ plus (suc (length ss)) (run (mem (applied w ss) (applied w ss) t (fall p (suc (length ss)))) rest)
-line_done size l ss w true p rest e i h n =
-    let x = picked_one (in_line l) (applied w ss) in let y = line_whole size l ss w w true p rest e i h (agree_self w ss) n in cc
-line_done size l ss w false p rest e i h n =
-    let x = flush_settles size l w ss h in let y = line_whole size l ss w w false p rest e i h (agree_self w ss) n in cc
+line_done size l ss w t p rest e i h n =
+    let x = line_kept size l ss w t.through h in let y = line_whole size l ss w w t p rest e i h (agree_self w ss) n in cc
 
-pub whole : (size : ℕ) (ws : List LineWrite) (w : List ℕ) (t : Bool) (p : Power) → length w ≡ size → Proper size ws → Enough p (cost ws)
+pub whole : (size : ℕ) (ws : List LineWrite) (w : List ℕ) (t : Make) (p : Power) → length w ≡ size → Proper size ws → Enough p (cost ws)
     → run (mem w w t p) (all_ops ws) ≡ record { after = mem (finished w ws) (finished w ws) t (fall p (cost ws)); steps = cost ws; ended = Ok tt }
 unfolding run
 whole size [] w t p e h n = let x = fall_none p in cc
@@ -152,7 +162,7 @@ whole size (l ∷ ws) w t p e h n =
     cc
 
 -- Where the power ran out.
-pub record Stop (size : ℕ) (w : List ℕ) (t : Bool) (ws : List LineWrite) (n : ℕ) : Type 0 where
+pub record Stop (size : ℕ) (w : List ℕ) (t : Make) (ws : List LineWrite) (n : ℕ) : Type 0 where
   pub whole : ℕ
   pub within : whole < length ws
   pub part : LineWrite
@@ -164,12 +174,12 @@ pub record Stop (size : ℕ) (w : List ℕ) (t : Bool) (ws : List LineWrite) (n 
   pub after_words : finished w (take (suc whole) ws) ≡ applied (finished w (take whole ws)) part.stores
   pub is : run (mem w w t (left n)) (all_ops ws)
       ≡ record {
-        after = mem (applied (finished w (take whole ws)) (take made part.stores)) (cond t (applied (finished w (take whole ws)) (take made part.stores)) (finished w (take whole ws))) t (left 0);
+        after = mem (applied (finished w (take whole ws)) (take made part.stores)) (cond t.through (applied (finished w (take whole ws)) (take made part.stores)) (finished w (take whole ws))) t (left 0);
         steps = n;
         ended = Err NoPower;
       }
 
-stop_more : (size : ℕ) (l : LineWrite) (ws : List LineWrite) (w : List ℕ) (t : Bool) (n : ℕ) → length w ≡ size → Proper size (l ∷ ws)
+stop_more : (size : ℕ) (l : LineWrite) (ws : List LineWrite) (w : List ℕ) (t : Make) (n : ℕ) → length w ≡ size → Proper size (l ∷ ws)
     → suc (length l.stores) ≤ n → Stop size (applied w l.stores) t ws (n - suc (length l.stores)) → Stop size w t (l ∷ ws) n
 stop_more size l ws w t n e h enough s =
     let k = suc (length l.stores) in
@@ -189,7 +199,7 @@ stop_more size l ws w t n e h enough s =
       is = cc s.is;
     }
 
-pub short : (size : ℕ) (ws : List LineWrite) (w : List ℕ) (t : Bool) (n : ℕ) → length w ≡ size → Proper size ws → n < cost ws → Stop size w t ws n
+pub short : (size : ℕ) (ws : List LineWrite) (w : List ℕ) (t : Make) (n : ℕ) → length w ≡ size → Proper size ws → n < cost ws → Stop size w t ws n
 short size [] w t n e h c = absurd (omega arith)
 short size (l ∷ ws) w t n e h c =
     ⊎_elim

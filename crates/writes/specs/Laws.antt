@@ -34,6 +34,7 @@ Whole =
         firm = finished m.live ws;
         through = m.through;
         power = fall m.power (cost ws);
+        choosing = m.choosing;
       };
       steps = cost ws;
       ended = Ok tt;
@@ -120,7 +121,7 @@ Kept =
 
 -- The same memory with other steps left.
 abbrev pub powered : Words → Power → Words
-powered m p = record { live = m.live; firm = m.firm; through = m.through; power = p }
+powered m p = record { live = m.live; firm = m.firm; through = m.through; power = p; choosing = m.choosing }
 
 -- A run used all its n steps, and one with more takes no fewer.
 pub record RanOut (r more : Run) (n : ℕ) : Type 0 where

@@ -8,22 +8,20 @@ ghost use Rattle.index.specs.Meaning.{grouped};
 use super::Index;
 use crate::node::fill::empty;
 use crate::node::{Entry, Node};
-use std::array;
 
 // Children numbered from `first` on, with the bounds of the entries.
-fn children(first: usize, entries: &[Entry]) -> Node
+fn put_children(node: &mut Node, first: usize, entries: &[Entry])
     requires { (length entries.now ≤ 9) × (first < 91) }
-    ensures { items result ≡ numbered first (bounds entries.now) }
+    ensures { items node.new ≡ numbered first (bounds entries.now) }
 {
-    let mut children = empty();
+    node.entries.clear();
     for (i, e) in entries.iter().enumerate() {
         let child = Entry {
             to: first + i,
             bound: e.bound,
         };
-        children.push(child).unwrap();
+        node.entries.push(child).unwrap();
     }
-    Node { entries: children }
 }
 
 // Row q of nine entries.
@@ -34,30 +32,28 @@ fn row(entries: &[Entry], q: usize) -> &[Entry]
 }
 
 // The root over rows of nine entries.
-fn root(entries: &[Entry]) -> Node
+fn put_root(node: &mut Node, entries: &[Entry])
     requires { length entries.now ≤ 81 }
-    ensures { items result ≡ numbered 1 (map last (rows 9 (bounds entries.now))) }
+    ensures { items node.new ≡ numbered 1 (map last (rows 9 (bounds entries.now))) }
 {
-    let mut children = empty();
+    node.entries.clear();
     for (q, row) in entries.chunks(9).enumerate() {
         let child = Entry {
             to: 1 + q,
             bound: row[row.len() - 1].bound,
         };
-        children.push(child).unwrap();
+        node.entries.push(child).unwrap();
     }
-    Node { entries: children }
 }
 
 // Leaf i alone; no leaf past the last.
-fn single(entries: &[Entry], i: usize) -> Node
-    ensures { items result ≡ slice_index_or (singles entries.now) i [] }
+fn put_single(node: &mut Node, entries: &[Entry], i: usize)
+    ensures { items node.new ≡ slice_index_or (singles entries.now) i [] }
 {
-    let mut leaves = empty();
+    node.entries.clear();
     if let Some(e) = entries.get(i) {
-        leaves.push(*e).unwrap();
+        node.entries.push(*e).unwrap();
     }
-    Node { entries: leaves }
 }
 
 pub(crate) fn lowest(used: usize) -> usize
@@ -72,32 +68,34 @@ pub(crate) fn lowest(used: usize) -> usize
     }
 }
 
-// Node i of an index of one leaf to a group.
-fn made(entries: &[Entry], i: usize) -> Node
+// Makes a node the node i of an index of one leaf to a group.
+fn put_node(node: &mut Node, entries: &[Entry], i: usize)
     requires { length entries.now ≤ 81 }
-    ensures { items result ≡ table_node (singles entries.now) i }
+    ensures { items node.new ≡ table_node (singles entries.now) i }
 {
     let n = entries.len();
     let low = lowest(n);
     if i >= low {
-        return single(entries, i - low);
+        put_single(node, entries, i - low);
+    } else if n <= 9 {
+        put_children(node, 1, entries);
+    } else if i == 0 {
+        put_root(node, entries);
+    } else {
+        put_children(node, 9 * i + 1, row(entries, i - 1));
     }
-    if n <= 9 {
-        return children(1, entries);
-    }
-    if i == 0 {
-        return root(entries);
-    }
-    children(9 * i + 1, row(entries, i - 1))
 }
 
-// All nodes of an index of one leaf to a group.
-fn table(entries: &[Entry]) -> [Node; 91]
-    requires { length entries.now ≤ 81 }
-    ensures long { length result ≡ 91 }
-    ensures each { (i : ℕ) → i < 91 → slice_index_or (map items result) i [] ≡ table_node (singles entries.now) i }
+// Makes all nodes those of an index of one leaf to a group.
+pub(crate) fn put_nodes(nodes: &mut [Node], entries: &[Entry])
+    requires { (length nodes.old ≡ 91) × (length entries.now ≤ 81) }
+    ensures long { length nodes.new ≡ 91 }
+    ensures each { (i : ℕ) → i < 91 → slice_index_or (map items nodes.new) i [] ≡ table_node (singles entries.now) i }
 {
-    array::from_fn(|i| made(entries, i))
+    for i in 0..nodes.len() {
+        let node = &mut nodes[i];
+        put_node(node, entries, i);
+    }
 }
 
 // One leaf in each node of the lowest level.
@@ -105,9 +103,11 @@ pub(crate) fn built(entries: &[Entry]) -> Index
     requires { (1 ≤ length entries.now) × (length entries.now ≤ 64) }
     ensures { grouped result ≡ singles entries.now }
 {
+    let mut nodes = [Node { entries: empty() }; 91];
+    put_nodes(&mut nodes, entries);
     Index {
         leaves: entries.len(),
         used: entries.len(),
-        nodes: table(entries),
+        nodes,
     }
 }

@@ -8,7 +8,7 @@ ghost use Rattle.index.specs.Shape.{singles};
 ghost use Rattle.index.specs.Places.{position, place_after};
 ghost use Rattle.index.specs.Meaning.{grouped, listed, merged, split as split_groups, splits};
 
-use super::build::built;
+use super::build::put_nodes;
 use super::{Index, Place};
 use crate::node::fill::empty;
 use crate::node::{Entry, Node};
@@ -56,7 +56,10 @@ impl Index {
         ensures { grouped self.new ≡ singles (concat (slice_set (grouped self.old) group (items other.now))) }
     {
         let all = self.list_with(group, other);
-        *self = built(all.as_slice());
+        let entries = all.as_slice();
+        put_nodes(&mut self.nodes, entries);
+        self.leaves = entries.len();
+        self.used = entries.len();
     }
 
     // Two leaves in the place of one.

@@ -2,13 +2,13 @@
 ghost use Rattle.std.specs.Prelude.{◌≡◌, length};
 ghost use Rattle.keys.specs.InWords.{in_words};
 ghost use Rattle.leaves.specs.Opening.{greatest as greatest_of};
-ghost use Rattle.leaves.specs.Asking.{count_answer, counted, elements_told};
+ghost use Rattle.leaves.specs.Asking.{count_answer, counted, elements_told, seen};
 ghost use Rattle.leaves.specs.Layout.{elements as elements_of};
 ghost use Rattle.leaves.specs.Pairs.{first_after, lookup, pairs};
 
-use super::{Elements, Pair};
+use super::{Elements, Pair, Seen};
 use crate::leaf::check::greatest;
-use crate::leaf::read::{elements, find, start_of, word_at};
+use crate::leaf::read::{elements, find_by_reads, start_of, word_at};
 use crate::leaf::sorted::{load, next};
 use keys::Key;
 use memory::Memory;
@@ -38,6 +38,16 @@ pub fn elements_in<M: Memory>(memory: &mut M, leaf: usize) -> Result<Elements, R
     Ok(elements(memory, leaf, count))
 }
 
+// What a leaf counts, and the reading that its counted elements leave a key with; no word is read twice.
+pub fn look_in<M: Memory>(memory: &mut M, leaf: usize, key: (u64, u64)) -> Result<Seen, Refusal>
+    ensures same { M.Memory.meaning memory.new ≡ M.Memory.meaning memory.old }
+    ensures value { result ≡ counted (M.Memory.meaning memory.old).live leaf (seen (M.Memory.meaning memory.old).live leaf key) }
+{
+    let count = count_in(memory, leaf)?;
+    let held = find_by_reads(memory, leaf, count, key);
+    Ok(Seen { count, held })
+}
+
 // The reading of a key, if the leaf has its pair.
 pub fn find_in<K: Key, M: Memory>(
     memory: &mut M,
@@ -47,8 +57,8 @@ pub fn find_in<K: Key, M: Memory>(
     ensures same { M.Memory.meaning memory.new ≡ M.Memory.meaning memory.old }
     ensures value { result ≡ counted (M.Memory.meaning memory.old).live leaf (λ n. lookup key (pairs (in_words K.Key.kind) (M.Memory.meaning memory.old).live leaf n)) }
 {
-    let elements = elements_in(memory, leaf)?;
-    Ok(find(elements.as_slice(), key))
+    let count = count_in(memory, leaf)?;
+    Ok(find_by_reads(memory, leaf, count, key))
 }
 
 // The pair of the smallest key of the leaf that is after the given one, if there is one.

@@ -6,7 +6,7 @@ ghost use Rattle.leaves.specs.Pairs.{insert, delete, folded, latest};
 
 use super::{Elements, Pair, Run};
 use crate::leaf::read::find;
-use crate::leaf::sorted::{deleted, inserted, load};
+use crate::leaf::sorted::{load, put_pair, take_key};
 use keys::Key;
 
 // The reading that the elements leave the key with.
@@ -28,14 +28,19 @@ pub fn pairs_of<K: Key>(elements: &Elements) -> Run
 pub fn put_into<K: Key>(elements: &Elements, pair: Pair) -> Run
     ensures { items result ≡ insert (in_words K.Key.kind) pair (folded (in_words K.Key.kind) [] (items elements.now)) }
 {
-    inserted::<K>(&load::<K>(elements), pair)
+    let mut after = load::<K>(elements);
+    put_pair::<K>(&mut after, pair);
+    after
 }
 
 // The pairs after a change.
 pub fn change_in<K: Key>(elements: &Elements, pair: Pair) -> Run
     ensures { items result ≡ insert (in_words K.Key.kind) pair (delete pair.key (folded (in_words K.Key.kind) [] (items elements.now))) }
 {
-    inserted::<K>(&deleted(&load::<K>(elements), pair.key), pair)
+    let mut run = load::<K>(elements);
+    take_key(&mut run, pair.key);
+    put_pair::<K>(&mut run, pair);
+    run
 }
 
 // The pairs after a remove.
@@ -43,7 +48,9 @@ pub fn remove_from<K: Key>(elements: &Elements, key: (u64, u64)) -> Run
     ensures value { items result ≡ delete key (folded (in_words K.Key.kind) [] (items elements.now)) }
     ensures fits { length (items result) ≤ 16 }
 {
-    deleted(&load::<K>(elements), key)
+    let mut run = load::<K>(elements);
+    take_key(&mut run, key);
+    run
 }
 
 // The pairs of two leaves that merge, those of the left one first; the left ones alone where there is no room for all.

@@ -1,8 +1,8 @@
 // Words and elements of one leaf, for every content of the memory.
-ghost use Rattle.std.specs.Prelude.{◌≡◌, ◌<◌, ◌≤◌, length};
+ghost use Rattle.std.specs.Prelude.{◌≡◌, ◌<◌, ◌≤◌, length, if◌then◌else◌};
 ghost use Rattle.fixed_vec.specs.Items.{items};
 ghost use Rattle.leaves.specs.Layout.{word, Within, leaf_at, element as element_at, elements as elements_of};
-ghost use Rattle.leaves.specs.Pairs.{held as held_by, latest};
+ghost use Rattle.leaves.specs.Pairs.{equal, held as held_by, latest};
 
 use super::{Element, Elements};
 use memory::Memory;
@@ -52,6 +52,46 @@ pub(crate) fn elements<M: Memory>(memory: &mut M, leaf: usize, count: usize) -> 
         read.push(element(memory, leaf, slot)).unwrap();
     }
     read
+}
+
+// What a key's newest element says of it up to a slot, if `held` is what the older ones say.
+fn held_after<M: Memory>(
+    memory: &mut M,
+    leaf: usize,
+    slot: usize,
+    key: (u64, u64),
+    held: Option<u64>,
+) -> Option<u64>
+    requires { (Within (M.Memory.meaning memory.old).live leaf) × (slot < 16) }
+    ensures same { M.Memory.meaning memory.new ≡ M.Memory.meaning memory.old }
+    ensures value { result ≡ (if equal (element_at (M.Memory.meaning memory.old).live leaf slot).key key then held_by (element_at (M.Memory.meaning memory.old).live leaf slot) else held) }
+{
+    let start = start_of(leaf) + 8 + 4 * slot;
+    if word_at(memory, start + 1) != key.0 || word_at(memory, start + 2) != key.1 {
+        return held;
+    }
+    if word_at(memory, start) != 1 {
+        return None;
+    }
+    Some(word_at(memory, start + 3))
+}
+
+// The reading that the oldest `count` elements of the leaf leave the key with; no word is read twice.
+pub(crate) fn find_by_reads<M: Memory>(
+    memory: &mut M,
+    leaf: usize,
+    count: usize,
+    key: (u64, u64),
+) -> Option<u64>
+    requires { (Within (M.Memory.meaning memory.old).live leaf) × (count ≤ 16) }
+    ensures same { M.Memory.meaning memory.new ≡ M.Memory.meaning memory.old }
+    ensures value { result ≡ latest key (elements_of (M.Memory.meaning memory.old).live leaf count) }
+{
+    let mut held = None;
+    for slot in 0..count {
+        held = held_after(memory, leaf, slot, key, held);
+    }
+    held
 }
 
 // What an element says of its key.

@@ -15,17 +15,17 @@ fn empty() -> Run
     Run::new(Pair::default())
 }
 
-// The pairs without the key's.
-pub(crate) fn deleted(run: &Run, key: (u64, u64)) -> Run
-    ensures { items result ≡ delete key (items run.now) }
+// Takes the key's pairs out.
+pub(crate) fn take_key(run: &mut Run, key: (u64, u64))
+    ensures { items run.new ≡ delete key (items run.old) }
 {
-    let mut out = empty();
-    for pair in run.as_slice() {
+    let old = *run;
+    run.clear();
+    for pair in old.as_slice() {
         if pair.key != key {
-            out.push(*pair).unwrap();
+            run.push(*pair).unwrap();
         }
     }
-    out
 }
 
 // How many pairs stand before the key's place.
@@ -48,35 +48,33 @@ fn past_key<K: Key>(pairs: &[Pair], key: (u64, u64)) -> &[Pair]
     }
 }
 
-// The pairs with this one in its place.
-pub(crate) fn inserted<K: Key>(run: &Run, pair: Pair) -> Run
-    requires { length (items run.now) ≤ 16 }
-    ensures { items result ≡ insert (in_words K.Key.kind) pair (items run.now) }
+// Puts a pair in its place.
+pub(crate) fn put_pair<K: Key>(run: &mut Run, pair: Pair)
+    requires { length (items run.old) ≤ 16 }
+    ensures { items run.new ≡ insert (in_words K.Key.kind) pair (items run.old) }
 {
-    let pairs = run.as_slice();
-    let (smaller, rest) = pairs.split_at(place::<K>(pairs, pair.key));
+    let old = *run;
+    let pairs = old.as_slice();
+    let place = place::<K>(pairs, pair.key);
+    let (_, rest) = pairs.split_at(place);
     let larger = past_key::<K>(rest, pair.key);
-    let mut out = empty();
-    out.extend_from_slice(smaller).unwrap();
-    out.push(pair).unwrap();
-    out.extend_from_slice(larger).unwrap();
-    out
+    run.truncate(place);
+    run.push(pair).unwrap();
+    run.extend_from_slice(larger).unwrap();
 }
 
-fn applied<K: Key>(run: &Run, e: Element) -> Run
-    requires { length (items run.now) ≤ 16 }
-    ensures { items result ≡ applied_to (in_words K.Key.kind) e (items run.now) }
+fn apply<K: Key>(run: &mut Run, e: Element)
+    requires { length (items run.old) ≤ 16 }
+    ensures { items run.new ≡ applied_to (in_words K.Key.kind) e (items run.old) }
 {
     if e.sign == 1 {
-        inserted::<K>(
-            run,
-            Pair {
-                key: e.key,
-                reading: e.reading,
-            },
-        )
+        let pair = Pair {
+            key: e.key,
+            reading: e.reading,
+        };
+        put_pair::<K>(run, pair);
     } else {
-        deleted(run, e.key)
+        take_key(run, e.key);
     }
 }
 
@@ -87,7 +85,7 @@ pub(crate) fn load<K: Key>(elements: &Elements) -> Run
 {
     let mut run = empty();
     for e in elements.as_slice() {
-        run = applied::<K>(&run, *e);
+        apply::<K>(&mut run, *e);
     }
     run
 }

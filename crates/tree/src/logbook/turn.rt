@@ -2,7 +2,7 @@
 ghost use Rattle.std.specs.Prelude.{◌≡◌, ◌≤◌, [], length, IfOk};
 ghost use Rattle.fixed_vec.specs.Items.{items};
 ghost use Rattle.keys.specs.InWords.{in_words};
-ghost use Rattle.leaves.specs.Layout.{count_of, elements as elements_of};
+ghost use Rattle.leaves.specs.Layout.{count_of};
 ghost use Rattle.leaves.specs.Pairs.{folded, lookup};
 ghost use Rattle.books.specs.Footprint.{book};
 ghost use Rattle.plans.specs.Deeds.{call_of, done, key_of};
@@ -20,8 +20,8 @@ use super::carry::Halt;
 use super::place::Home;
 use fixed_vec::FixedVec;
 use keys::Key;
-use leaves::leaf::ask::elements_in;
-use leaves::leaf::change::{change_in, held_in, put_into, remove_from};
+use leaves::leaf::ask::{elements_in, look_in};
+use leaves::leaf::change::{change_in, put_into, remove_from};
 use leaves::leaf::{Elements, Pair, Run};
 use memory::Memory;
 use plans::deed::Deed;
@@ -84,20 +84,20 @@ impl<K: Key, M: Memory> Logbook<K, M> {
     fn carry(
         &mut self,
         home: Home,
-        elements: &Elements,
+        count: usize,
         deed: Deed,
         list: &[(u64, u64)],
     ) -> Result<usize, Halt>
-        ensures done { (x : Index) → self.old.state ≡ Open x → Working (in_words K.Key.kind) (M.Memory.meaning self.old.memory).live x (key_of deed) home → items elements.now ≡ elements_of (M.Memory.meaning self.old.memory).live home.leaf (count_of (M.Memory.meaning self.old.memory).live home.leaf) → changed list.now ≡ wish_of deed (lookup (key_of deed) (pairs_of (in_words K.Key.kind) (M.Memory.meaning self.old.memory).live home.leaf)) → ending result (M.Memory.meaning self.new.memory) (shape_of self.new.state) self.new.taken ≡ call_ending (in_words K.Key.kind) (M.Memory.meaning self.old.memory) (Open x) self.old.taken deed }
+        ensures done { (x : Index) → self.old.state ≡ Open x → Working (in_words K.Key.kind) (M.Memory.meaning self.old.memory).live x (key_of deed) home → count ≡ count_of (M.Memory.meaning self.old.memory).live home.leaf → changed list.now ≡ wish_of deed (lookup (key_of deed) (pairs_of (in_words K.Key.kind) (M.Memory.meaning self.old.memory).live home.leaf)) → ending result (M.Memory.meaning self.new.memory) (shape_of self.new.state) self.new.taken ≡ call_ending (in_words K.Key.kind) (M.Memory.meaning self.old.memory) (Open x) self.old.taken deed }
     {
         if list.is_empty() {
             return Ok(0);
         }
-        let count = elements.len();
-        if count + list.len() <= 16 {
+        if count.saturating_add(list.len()) <= 16 {
             return self.append(home.leaf, count, deed.key(), list);
         }
-        self.rewrite(home, &pairs_after::<K>(elements, deed), deed.call())
+        let elements = elements_in(&mut self.memory, home.leaf)?;
+        self.rewrite(home, &pairs_after::<K>(&elements, deed), deed.call())
     }
 
     // A call of any of the three.
@@ -106,11 +106,13 @@ impl<K: Key, M: Memory> Logbook<K, M> {
         ensures held { Sound (in_words K.Key.kind) (M.Memory.meaning self.old.memory).live self.old.state → IfOk result (λ done. done.held ≡ lookup (key_of deed) (book (in_words K.Key.kind) (M.Memory.meaning self.old.memory).live)) }
     {
         let home = self.home(deed.key())?;
-        let elements = elements_in(&mut self.memory, home.leaf)?;
-        let held = held_in(&elements, deed.key());
-        let list = wish(deed, held)?;
-        let steps = self.carry(home, &elements, deed, list.as_slice())?;
-        Ok(Done { held, steps })
+        let seen = look_in(&mut self.memory, home.leaf, deed.key())?;
+        let list = wish(deed, seen.held)?;
+        let steps = self.carry(home, seen.count, deed, list.as_slice())?;
+        Ok(Done {
+            held: seen.held,
+            steps,
+        })
     }
 
     // Adds a pair; refused where the key is in the book. Told: the steps.

@@ -21,8 +21,8 @@ fn cut<K: Key, M: Settle>(
     choice: &[u64],
     steps: u64,
 ) -> Result<Told, Trouble>
-    ensures answer { result ≡ cut_told (cut_answer (in_words K.Key.kind) (settle_answer (M.Settle.extent book.old.memory) choice.now) (after_settle (M.Memory.meaning book.old.memory) (M.Settle.extent book.old.memory) (M.Settle.origin book.old.memory) choice.now steps).live) }
-    ensures words { M.Memory.meaning book.new.memory ≡ after_settle (M.Memory.meaning book.old.memory) (M.Settle.extent book.old.memory) (M.Settle.origin book.old.memory) choice.now steps }
+    ensures answer { result ≡ cut_told (cut_answer (in_words K.Key.kind) (settle_answer (M.Memory.meaning book.old.memory) choice.now) (after_settle (M.Memory.meaning book.old.memory) choice.now steps).live) }
+    ensures words { M.Memory.meaning book.new.memory ≡ after_settle (M.Memory.meaning book.old.memory) choice.now steps }
     ensures sound { Sound (in_words K.Key.kind) (M.Memory.meaning book.old.memory).live book.old.state → Sound (in_words K.Key.kind) (M.Memory.meaning book.new.memory).live book.new.state }
 {
     book.cut(choice, steps)??;
@@ -32,7 +32,7 @@ fn cut<K: Key, M: Settle>(
 impl<B: Settle> Book<B> {
     // A cut that settles the words by these choices, with new steps; answered as the opening after it is.
     pub fn cut(&mut self, choice: &[u64], steps: u64) -> Result<Told, Trouble>
-        ensures answer { BookCuts B.Memory.meaning B.Settle.extent B.Settle.origin choice.now steps self.old result }
+        ensures answer { BookCuts B.Memory.meaning choice.now steps self.old result }
         ensures kind { kind_of self.new ≡ kind_of self.old }
         ensures sound { IsSound B.Memory.meaning self.old → IsSound B.Memory.meaning self.new }
     {

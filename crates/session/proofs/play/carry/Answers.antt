@@ -7,9 +7,8 @@ use Rattle.histories.specs.PlainBook.{find, next as next_after, pairs as how_man
 use Rattle.histories.specs.Outcome.{outcome, reply}
 use Rattle.histories.specs.Histories.{asked, called}
 use Rattle.tree.specs.Turning.{call_ending}
-use Rattle.session.specs.Playing.{cut_as}
 use Rattle.session.specs.Hearing.{heard_found, heard_next, heard_number, heard_removed}
-use Rattle.session.proofs.CarryLaws.{cut_told, deed_told, ends_so, find_told, next_told, node_told_in, pairs_told}
+use Rattle.session.proofs.CarryLaws.{cut_told, deed_told, either_way, ends_so, find_told, next_told, node_told_in, pairs_told}
 use Rattle.session.proofs.play.carry.Goals as goal
 
 pub returns-in-Put : goal.returns-in-Put
@@ -108,12 +107,12 @@ returns-in-Node g c s same sound = record {
 pub returns-in-Cut : goal.returns-in-Cut
 returns-in-Cut g c s same sound =
     let m = g.M.Memory.meaning c.args.logbook.now.memory in
-    let told = cut_told g.K.Key.kind (cut_as g.M.Memory.meaning g.M.Settle.extent g.M.Settle.origin) c.args.choices.now c.in-Cut.from c.in-Cut.steps s m c.args.logbook.now.state c.args.logbook.now.taken same (g.M.Settle.extent c.args.logbook.now.memory) (g.M.Settle.origin c.args.logbook.now.memory) (c.args.logbook.now.memory, refl, refl, refl) c.cut.result _ _ _
+    let told = cut_told g.K.Key.kind c.args.choices.now c.in-Cut.from c.in-Cut.steps s m c.args.logbook.now.state c.args.logbook.now.taken same c.cut.result _ _ _
     (rw c.choices_from.ensures at c.cut.ensures.answer) (rw c.choices_from.ensures at c.cut.ensures.memory) (rw c.choices_from.ensures at c.cut.ensures.state) (rw c.choices_from.ensures at c.cut.ensures.taken) in
     record {
       event = told.event;
       rightly = told.rightly;
       happened = rw (c.in-Cut.is, c.opened.ensures) told.happened;
       same = told.same;
-      sound = c.cut.ensures.sound sound;
+      sound = either_way c.cut.result c.cut.ensures.sound sound;
     }

@@ -1,7 +1,6 @@
 use Rattle.std.proofs.Common.{◌+◌, ◌<◌, ◌++◌, [], ◌∷◌, length, take, length-set, sym, ap, ◌∙◌, arith}
 use Rattle.std.proofs.lemmas.Grind.{drop_more_same}
 use Rattle.std.proofs.lemmas.List.{drop-set-lt, take_more, take_more_set}
-use Rattle.session.specs.Playing.{cut_as}
 use Rattle.session.specs.Sessions.{onward_all}
 use Rattle.session.proofs.PlayLaws.{all_more}
 use Rattle.session.proofs.play.play_on.Goals as goal
@@ -19,5 +18,5 @@ loop-i-preserved g c =
       λ s same sound.
           let all = l.invariant.2 s same sound in
           let one = c.carry.ensures (onward_all g.K.Key.kind s all.happened) all.same all.sound in
-          rw (more, take_more_set l.told i c.carry.result here) (all_more g.K.Key.kind (cut_as g.M.Memory.meaning g.M.Settle.extent g.M.Settle.origin) c.args.choices.now s _ _ _ _ _ _ _ _ _ _ all one),
+          rw (more, take_more_set l.told i c.carry.result here) (all_more g.K.Key.kind c.args.choices.now s _ _ _ _ _ _ _ _ _ _ all one),
     )

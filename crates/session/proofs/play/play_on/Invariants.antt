@@ -3,7 +3,6 @@ use Rattle.std.proofs.Common.{◌≡◌, length, take, drop}
 use Rattle.keys.specs.InWords.{in_words}
 use Rattle.histories.specs.Outcome.{State}
 use Rattle.tree.specs.Sound.{Sound}
-use Rattle.session.specs.Playing.{cut_as}
 use Rattle.session.specs.Sessions.{CarriedAll, Same}
 use Rattle.session.proofs.play.play_on.Given as goal
 
@@ -12,4 +11,4 @@ invariant-loop-i g l =
     (length l.told ≡ length l.fn.told)
     × (drop l.i l.told ≡ drop l.i l.fn.told)
     × ((s : State) → Same (g.M.Memory.meaning l.fn.logbook.memory) l.fn.logbook.state l.fn.logbook.taken s → Sound (in_words g.K.Key.kind) (g.M.Memory.meaning l.fn.logbook.memory).live l.fn.logbook.state
-    → CarriedAll g.K.Key.kind (cut_as g.M.Memory.meaning g.M.Settle.extent g.M.Settle.origin) l.choices s (take l.i l.acts) (take l.i l.told) (g.M.Memory.meaning l.logbook.memory) l.logbook.state l.logbook.taken)
+    → CarriedAll g.K.Key.kind l.choices s (take l.i l.acts) (take l.i l.told) (g.M.Memory.meaning l.logbook.memory) l.logbook.state l.logbook.taken)

@@ -6,9 +6,9 @@ use Rattle.index.proofs.table.build.built.Goals as goal
 pub invariant_of-result : goal.invariant_of-result
 invariant_of-result c =
     let es = c.args.entries.now in
-    let nodes = c.table.result in
+    let nodes = c.put_nodes.new.nodes in
     let few : length es ≤ 81 = omega (arith, c.requires.1) in
-    let t = c.table.ensures in
+    let t = c.put_nodes.ensures in
     record {
       size = (c.requires.0, few, t.long);
       counted = (build_counted es nodes few t.long t.each, c.requires.1);
@@ -19,4 +19,4 @@ invariant_of-result c =
 
 pub returns : goal.returns
 unfolding grouped
-returns c = build_groups c.args.entries.now c.table.result (omega (arith, c.requires.1)) c.table.ensures.long c.table.ensures.each
+returns c = build_groups c.args.entries.now c.put_nodes.new.nodes (omega (arith, c.requires.1)) c.put_nodes.ensures.long c.put_nodes.ensures.each

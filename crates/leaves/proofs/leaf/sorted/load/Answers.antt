@@ -5,8 +5,8 @@ use Rattle.std.proofs.lemmas.Grind.{common_steps}
 use Rattle.leaves.proofs.RunLaws.{length_folded}
 use Rattle.leaves.proofs.leaf.sorted.load.Goals as goal
 
-pub applied-run-requires : goal.applied-run-requires
-applied-run-requires g c = grind (arith, common_steps, length_folded)
+pub apply-requires : goal.apply-requires
+apply-requires g c = grind (arith, common_steps, length_folded)
 
 pub returns-clause-fits : goal.returns-clause-fits
 returns-clause-fits g c =

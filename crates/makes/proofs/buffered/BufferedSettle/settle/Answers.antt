@@ -1,5 +1,9 @@
-use Rattle.std.proofs.Common.{◌≡◌, ◌≤◌, ◌<◌, length, take, get_or, sym, refl, ◌∙◌, arith, rules}
+use Rattle.std.proofs.Common.{◌≡◌, ◌≤◌, ◌<◌, length, take, get_or, Err, sym, refl, ◌∙◌, arith, rules}
 use Rattle.std.proofs.lemmas.List.{get_or-take, length-set, length-take-le}
+use Rattle.refusal.specs.declared.Refusal.TheVariants.{WrongLength}
+use Rattle.memory.specs.Meaning.{settle_answer}
+use Rattle.memory.proofs.Facts.{after_refused_settle}
+use Rattle.makes.specs.Makes.{buffered_words}
 use Rattle.makes.proofs.Runs.{buffered_free, chosen_at, even, odd, settle_after, settle_rest, stays_more, still, written_more}
 use Rattle.makes.proofs.buffered.BufferedSettle.settle.Goals as goal
 use Rattle.makes.proofs.buffered.BufferedSettle.settle.Goals.{then-word-eq1, else-word-eq1}
@@ -40,19 +44,20 @@ returns c =
       answer = search rules;
       after = settle_after c.args.self.now.live.now c.args.self.now.firm.now c.loop-i.self.live.now c.loop-i.self.firm.now c.args.choice.now c.args.self.now.steps c.args.steps c.loop-i.i c.loop-i.invariant.0 c.loop-i.invariant.1 (omega arith) (search rules) c.loop-i.invariant.2 c.loop-i.invariant.3;
       whole = settle_after c.args.self.now.live.now c.args.self.now.firm.now c.loop-i.self.live.now c.loop-i.self.firm.now c.args.choice.now c.args.self.now.steps c.args.steps c.loop-i.i c.loop-i.invariant.0 c.loop-i.invariant.1 (omega arith) (search rules) c.loop-i.invariant.2 c.loop-i.invariant.3;
-      stays = (rw (c.loop-i.invariant.0, c.loop-i.invariant.1), λ _. refl);
       free = buffered_free c.args.self.now.live.now c.args.self.now.firm.now c.args.self.now.steps;
       lent = (c.loop-i.invariant.4, c.loop-i.invariant.5);
       rest = settle_rest c.args.self.now.live.now c.args.self.now.firm.now c.loop-i.self.live.now c.loop-i.self.firm.now c.args.choice.now c.loop-i.i c.loop-i.invariant.0 c.loop-i.invariant.1 (omega arith) c.loop-i.invariant.2 c.loop-i.invariant.3;
     }
 
 pub returns-then-choice-size : goal.returns-then-choice-size
-returns-then-choice-size c = record {
-  answer = search rules;
-  after = search rules;
-  whole = search rules;
-  stays = (refl, λ _. refl);
-  free = buffered_free c.args.self.now.live.now c.args.self.now.firm.now c.args.self.now.steps;
-  lent = search rules;
-  rest = refl;
-}
+returns-then-choice-size c =
+    let words = buffered_words c.args.self.now.live.now c.args.self.now.firm.now c.args.self.now.steps in
+    let answer : Err WrongLength ≡ settle_answer words c.args.choice.now = search rules in
+    let after = after_refused_settle words c.args.choice.now c.args.steps answer in record {
+      answer = answer;
+      after = after;
+      whole = after;
+      free = buffered_free c.args.self.now.live.now c.args.self.now.firm.now c.args.self.now.steps;
+      lent = search rules;
+      rest = refl;
+    }

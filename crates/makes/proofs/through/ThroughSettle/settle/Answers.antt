@@ -8,7 +8,6 @@ returns c = record {
   answer = search rules;
   after = search (rules, picked_same);
   whole = search (rules, picked_same);
-  stays = (refl, λ _. refl);
   lent = search rules;
   free = through_free c.args.self.now.run.now;
 }

@@ -1,4 +1,4 @@
-use Rattle.std.proofs.Common.{◌≡◌, Ok, Err, sym, ap, ◌∙◌, subst}
+use Rattle.std.proofs.Common.{◌≡◌, Ok, Err, refl, sym, ap, ◌∙◌, subst}
 use Rattle.std.proofs.lemmas.Result.{err_from_is_err_and}
 use Rattle.fixed_vec.specs.Items.{items}
 use Rattle.keys.specs.InWords.{in_words}
@@ -15,7 +15,9 @@ use Rattle.tree.specs.Sound.{Sound}
 use Rattle.tree.specs.Walk.{HomeIn}
 use Rattle.tree.proofs.LocatedLaws.{never_ok}
 use Rattle.books.specs.Footprint.{book}
-use Rattle.tree.proofs.TurnLaws.{at_work, called, elements_here, held_here, held_in_book, not_open, same_elements}
+use Rattle.tree.proofs.TurnLaws.{at_work, called, held_here, held_in_book, not_open, seen_here, seen_never}
+use Rattle.leaves.specs.declared.leaf.Seen.{Seen}
+use Rattle.leaves.specs.Asking.{counted, seen}
 use Rattle.tree.proofs.logbook.Logbook.turn.Given.{Over}
 use Rattle.tree.proofs.logbook.Logbook.turn.Goals.{After-carry, After-wish}
 use Rattle.tree.proofs.logbook.Logbook.turn.Goals as goal
@@ -23,8 +25,8 @@ use Rattle.tree.proofs.logbook.Logbook.turn.Goals as goal
 -- The call is at work, on the elements that its leaf counts, with what the leaf says of the key.
 record Begun (g : Over) (c : After-wish g) (x : Index) : Type 0 where
   work : Working (in_words g.K.Key.kind) (g.M.Memory.meaning c.args.self.now.memory).live x (key_of c.args.deed) c.in_ok-home.home
-  read : items c.in_ok-elements.elements ≡ elements_of (g.M.Memory.meaning c.args.self.now.memory).live c.in_ok-home.home.leaf (count_of (g.M.Memory.meaning c.args.self.now.memory).live c.in_ok-home.home.leaf)
-  held : c.held_in-held.result ≡ lookup (key_of c.args.deed) (pairs_of (in_words g.K.Key.kind) (g.M.Memory.meaning c.args.self.now.memory).live c.in_ok-home.home.leaf)
+  read : c.in_ok-seen.seen.count ≡ count_of (g.M.Memory.meaning c.args.self.now.memory).live c.in_ok-home.home.leaf
+  held : c.in_ok-seen.seen.held ≡ lookup (key_of c.args.deed) (pairs_of (in_words g.K.Key.kind) (g.M.Memory.meaning c.args.self.now.memory).live c.in_ok-home.home.leaf)
 
 begun : (g : Over) (c : After-wish g) (x : Index) → Working (in_words g.K.Key.kind) (g.M.Memory.meaning c.args.self.now.memory).live x (key_of c.args.deed) c.in_ok-home.home → Begun g c x
 begun g c x work =
@@ -32,11 +34,11 @@ begun g c x work =
     let laws = in_words_ordered g.K.Key.kind g.met.K.Key.ordered g.met.K.Key.formed in
     let m = (g.M.Memory.meaning c.args.self.now.memory).live in
     let w = key_of c.args.deed in
-    let read = same_elements c.in_ok-elements.elements _ (elements_here o laws m x w c.in_ok-home.home work (Ok c.in_ok-elements.elements) c.in_ok-elements.ensures.value) in
+    let s = seen_here o laws m x w c.in_ok-home.home work c.in_ok-seen.seen w (c.in_ok-seen.ensures.value ∙ ap (λ k. counted m c.in_ok-home.home.leaf (seen m c.in_ok-home.home.leaf k)) c.key-2.ensures) in
     record {
       work = work;
-      read = read;
-      held = c.held_in-held.ensures ∙ ap (λ k. latest k (items c.in_ok-elements.elements)) c.key-2.ensures ∙ held_here o laws m x w c.in_ok-home.home work (items c.in_ok-elements.elements) read;
+      read = ap (λ (v : Seen). v.count) s;
+      held = ap (λ (v : Seen). v.held) s ∙ held_here o laws m x w c.in_ok-home.home work (elements_of m c.in_ok-home.home.leaf (count_of m c.in_ok-home.home.leaf)) refl;
     }
 
 home_in : (g : Over) (c : After-wish g) → HomeIn (in_words g.K.Key.kind) c.args.self.now.state (key_of c.args.deed) c.in_ok-home.home
@@ -54,7 +56,7 @@ carried_out g c h =
     (λ e s. ending c.carry.result (g.M.Memory.meaning c.carry.new.self.memory) (shape_of c.carry.new.self.state) c.carry.new.self.taken ≡ e) (home_in g a) h
     (λ x is work.
     let b = begun g a x work in
-    (rw c.elements_in.ensures.same at c.carry.ensures.done) x is work b.read (ap changed c.as_slice.ensures.value ∙ c.in_ok-list.ensures ∙ ap (wish c.args.deed) b.held))
+    (rw c.look_in.ensures.same at c.carry.ensures.done) x is work b.read (ap changed c.as_slice.ensures.value ∙ c.in_ok-list.ensures ∙ ap (wish c.args.deed) b.held))
 
 pub returns-in_err-home-clause-ending : goal.returns-in_err-home-clause-ending
 returns-in_err-home-clause-ending g c h =
@@ -63,14 +65,14 @@ returns-in_err-home-clause-ending g c h =
     let no = not_open o (g.M.Memory.meaning c.args.self.now.memory) c.args.self.now.state c.args.self.now.taken c.args.deed c.in_err-home.field-0.0 c.in_err-home.ensures in
     rw (p.1, p.2) no
 
-pub returns-in_err-elements-clause-ending : goal.returns-in_err-elements-clause-ending
-returns-in_err-elements-clause-ending g c h =
+pub returns-in_err-seen-clause-ending : goal.returns-in_err-seen-clause-ending
+returns-in_err-seen-clause-ending g c h =
     let o = in_words g.K.Key.kind in
     let laws = in_words_ordered g.K.Key.kind g.met.K.Key.ordered g.met.K.Key.formed in
     let m = g.M.Memory.meaning c.args.self.now.memory in
     let home = subst (λ w. HomeIn o c.args.self.now.state w c.in_ok-home.home) c.key.ensures c.in_ok-home.ensures in
-    at_work o m c.args.self.now.state c.args.self.now.taken c.args.deed c.in_ok-home.home (λ e s. ending (told c.from_residual-in_err-elements.result) (g.M.Memory.meaning c.elements_in.new.memory) (shape_of s) c.args.self.now.taken ≡ e) home h
-    (λ x is work. never_ok c.in_err-elements.field-0.0 (sym (elements_here o laws m.live x (key_of c.args.deed) c.in_ok-home.home work (Err c.in_err-elements.field-0.0) c.in_err-elements.ensures.value)))
+    at_work o m c.args.self.now.state c.args.self.now.taken c.args.deed c.in_ok-home.home (λ e s. ending (told c.from_residual-in_err-seen.result) (g.M.Memory.meaning c.look_in.new.memory) (shape_of s) c.args.self.now.taken ≡ e) home h
+    (λ x is work. never_ok c.in_err-seen.field-0.0 (seen_never o laws m.live x (key_of c.args.deed) c.in_ok-home.home work c.in_err-seen.field-0.0 _ c.in_err-seen.ensures.value))
 
 pub returns-in_err-list-clause-ending : goal.returns-in_err-list-clause-ending
 returns-in_err-list-clause-ending g c h =
@@ -79,7 +81,7 @@ returns-in_err-list-clause-ending g c h =
     let o = in_words g.K.Key.kind in
     let laws = in_words_ordered g.K.Key.kind g.met.K.Key.ordered g.met.K.Key.formed in
     let m = g.M.Memory.meaning c.args.self.now.memory in
-    rw (p.1, p.2, c.elements_in.ensures.same)
+    rw (p.1, p.2, c.look_in.ensures.same)
     (at_work o m c.args.self.now.state c.args.self.now.taken c.args.deed c.in_ok-home.home (λ e s. ending (Err (halted c.in_err-list.field-0.0 0)) m (shape_of s) c.args.self.now.taken ≡ e) (home_in g a) h
     (λ x is work.
     let b = begun g a x work in
@@ -102,5 +104,5 @@ returns-clause-held g c h =
     let o = in_words g.K.Key.kind in
     let laws = in_words_ordered g.K.Key.kind g.met.K.Key.ordered g.met.K.Key.formed in
     let m = g.M.Memory.meaning c.args.self.now.memory in
-    at_work o m c.args.self.now.state c.args.self.now.taken c.args.deed c.in_ok-home.home (λ e s. c.held_in-held.result ≡ lookup (key_of c.args.deed) (book o m.live)) (home_in g a) h
+    at_work o m c.args.self.now.state c.args.self.now.taken c.args.deed c.in_ok-home.home (λ e s. c.in_ok-seen.seen.held ≡ lookup (key_of c.args.deed) (book o m.live)) (home_in g a) h
     (λ x is work. (begun g a x work).held ∙ held_in_book o laws m.live x (key_of c.args.deed) c.in_ok-home.home work)

@@ -3,7 +3,7 @@ use Rattle.std.proofs.Common.{arith}
 use Rattle.std.proofs.lemmas.List.Sums.{prefix_len-le-length}
 use Rattle.fixed_vec.specs.Items.{items}
 use Rattle.leaves.proofs.RunLaws.{insert_joined}
-use Rattle.leaves.proofs.leaf.sorted.inserted.Goals as goal
+use Rattle.leaves.proofs.leaf.sorted.put_pair.Goals as goal
 
 pub split_at-requires : goal.split_at-requires
 split_at-requires g c = grind (arith, prefix_len-le-length)
@@ -11,4 +11,4 @@ split_at-requires g c = grind (arith, prefix_len-le-length)
 pub returns : goal.returns
 returns g c =
     let whole = insert_joined (in_words g.K.Key.kind) c.args.pair (items c.args.run.now) c.requires in
-    rw (c.extend_from_slice-2.ensures.list, c.push.ensures.list, c.extend_from_slice.ensures.list, c.empty-out.ensures, c.past_key-larger.ensures, c.split_at.ensures.back, c.split_at.ensures.front, c.place.ensures, c.as_slice-pairs.ensures.value) whole
+    rw (c.extend_from_slice.ensures.list, c.push.ensures.list, c.truncate.ensures, c.past_key-larger.ensures, c.split_at.ensures.back, c.place-place.ensures, c.as_slice-pairs.ensures.value) whole
