@@ -42,13 +42,13 @@ impl Totals {
 }
 
 // The next number of the congruence.
-fn after(seed: u64) -> u64 {
+pub fn after(seed: u64) -> u64 {
     seed.wrapping_mul(6_364_136_223_846_793_005)
         .wrapping_add(1_442_695_040_888_963_407)
 }
 
 // The key of call i of a pass: puts and removes go over all keys in an order of no kind, the others choose one by a number.
-fn chosen(kind: Kind, i: u64, seed: u64, number: u64) -> u64 {
+pub fn chosen(kind: Kind, i: u64, seed: u64, number: u64) -> u64 {
     let k = match kind {
         Kind::Put => i.wrapping_mul(167).wrapping_add(seed),
         Kind::Remove => i.wrapping_mul(91).wrapping_add(seed),
@@ -58,7 +58,7 @@ fn chosen(kind: Kind, i: u64, seed: u64, number: u64) -> u64 {
 }
 
 // What a granted call tells: its steps and its reading.
-fn call<M: Memory>(
+pub fn call<M: Memory>(
     book: &mut Logbook<Stamp, M>,
     kind: Kind,
     key: &Stamp,

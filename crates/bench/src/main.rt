@@ -1,17 +1,19 @@
-//! Plays lists of calls on a logbook over a through memory, for the measuring of what a call costs: `bench KIND ROUNDS`.
+//! Plays lists of calls on a logbook over a through memory, for the measuring of what a call costs: `bench KIND ROUNDS` plays so many
+//! rounds, to be counted from outside; `bench` alone tells what the calls read.
 #![tactic(auto)]
 
 use calls::{Kind, Totals, round};
 use keys::stamp::Stamp;
 use makes::through::Through;
+use reads::{Reads, measured};
 use refusal::Refusal;
 use std::{env, io};
+use tally::WORDS;
 use tree::logbook::Logbook;
 
 mod calls;
-
-// A logbook of 64 leaves.
-const WORDS: usize = 4616;
+mod reads;
+mod tally;
 
 fn kind_of(word: &str) -> Option<Kind> {
     match word {
@@ -52,16 +54,62 @@ fn show(rt: &impl Print, name: &str, kind: Kind, rounds: u64) -> io::Result<()> 
     }
 }
 
+fn show_reads(rt: &impl Print, sort: &str, reads: &Reads) -> io::Result<()> {
+    let Reads {
+        calls,
+        words,
+        leaves,
+        of_a_word,
+        outside,
+    } = *reads;
+    println!(rt; "  {sort:<18} {calls:>6} {words:>7} {leaves:>7} {of_a_word:>12} {outside:>10}")
+}
+
+fn show_sorts(rt: &impl Print, kind: Kind, append: &str, rewrite: Option<&str>) -> io::Result<()> {
+    match measured(kind) {
+        Ok(sorts) => {
+            show_reads(rt, append, &sorts.append)?;
+            match rewrite {
+                Some(rewrite) => show_reads(rt, rewrite, &sorts.rewrite),
+                None => Ok(()),
+            }
+        }
+        Err(refusal) => println!(rt; "  {append}: refused {refusal}"),
+    }
+}
+
+// What the calls read, the most of any call of a sort.
+fn show_all_reads(rt: &impl Print) -> io::Result<()> {
+    println!(rt; "Most that one call read, of calls that were granted:")?;
+    println!(rt; "                      calls   words  leaves  of one word  uncounted")?;
+    show_sorts(rt, Kind::Put, "put, an append", Some("put, a rewrite"))?;
+    show_sorts(
+        rt,
+        Kind::Change,
+        "change, an append",
+        Some("change, a rewrite"),
+    )?;
+    show_sorts(
+        rt,
+        Kind::Remove,
+        "remove, an append",
+        Some("remove, a rewrite"),
+    )?;
+    show_sorts(rt, Kind::Find, "find", None)?;
+    show_sorts(rt, Kind::Next, "next", None)?;
+    println!(rt; "uncounted: words read that are neither a leaf's own nor in a slot that it counts")
+}
+
 fn main(rt: HostRuntime) -> io::Result<()> {
     let mut words = env::args(&rt)?;
     let _program = words.next();
     let name = words.next();
     let rounds = words.next();
     let (Some(name), Some(rounds)) = (name, rounds) else {
-        return println!(&rt; "bench KIND ROUNDS");
+        return show_all_reads(&rt);
     };
     match (kind_of(&name), rounds.parse::<u64>()) {
         (Some(kind), Ok(rounds)) => show(&rt, &name, kind, rounds),
-        _ => println!(&rt; "bench KIND ROUNDS"),
+        _ => println!(&rt; "bench KIND ROUNDS, or bench alone for what the calls read"),
     }
 }

@@ -18,10 +18,12 @@ book o m = all_pairs o m (linked m)
 abbrev pub in_leaf : List ℕ → ℕ → ℕ → Bool
 in_leaf m k i = (nat_le (leaf_at k) i && nat_lt i (leaf_at k + 3)) || (nat_le (slot_at k 0) i && nat_lt i (slot_at k (count_of m k)))
 
+-- Those of some leaves.
 abbrev pub in_leaves : List ℕ → List ℕ → ℕ → Bool
 in_leaves m [] i = false
 in_leaves m (k ∷ ks) i = in_leaf m k i || in_leaves m ks i
 
+-- The head and those of the linked leaves.
 abbrev pub footprint : List ℕ → ℕ → Bool
 footprint m i = nat_lt i 4 || in_leaves m (linked m) i
 

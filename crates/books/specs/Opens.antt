@@ -10,10 +10,12 @@ abbrev pub Leads : List ℕ → ℕ → List ℕ → Type 0
 Leads m link [] = link ≡ 0
 Leads m link (k ∷ ks) = (link ≡ k) × (1 ≤ k) × Leads m (next_of m k) ks
 
+-- No leaf has a number above n.
 abbrev pub UpTo : ℕ → List ℕ → Type 0
 UpTo n [] = Unit {0}
 UpTo n (k ∷ ks) = (k ≤ n) × UpTo n ks
 
+-- No leaf stands twice.
 abbrev pub Distinct : List ℕ → Type 0
 Distinct [] = Unit {0}
 Distinct (k ∷ ks) = (member k ks ≡ false) × Distinct ks
@@ -30,11 +32,13 @@ abbrev pub AllFine : WordKind → List ℕ → Bool → Option (ℕ × ℕ) → 
 AllFine o m alone bound [] = Unit {0}
 AllFine o m alone bound (k ∷ ks) = Fine o m alone bound k × AllFine o m alone (greatest o m k (count_of m k)) ks
 
+-- There is one leaf and no other.
 abbrev pub lone : List ℕ → Bool
 lone [] = false
 lone (k ∷ []) = true
 lone (k ∷ l ∷ ks) = false
 
+-- Words open to these leaves: the head is that of a book of this kind, and the leaves are the chain from word 2, not all that there are, each without fault.
 pub record Opens (o : WordKind) (m : List ℕ) (ks : List ℕ) : Type 0 where
   pub long : 152 ≤ length m
   pub mark : word m 0 ≡ 30366

@@ -8,6 +8,7 @@ search o key [] = 0
 search o key (b ∷ []) = 0
 search o key (b ∷ c ∷ bs) = cond (o.before b key) (suc (search o key (c ∷ bs))) 0
 
+-- The last bound.
 abbrev pub last : List (ℕ × ℕ) → ℕ × ℕ
 last [] = (0, 0)
 last (b ∷ []) = b
@@ -19,6 +20,7 @@ front [] = []
 front (b ∷ []) = []
 front (b ∷ c ∷ bs) = b ∷ front (c ∷ bs)
 
+-- The groups one after the other.
 abbrev pub concat : {X : Type 0} → List (List X) → List X
 concat [] = []
 concat (g ∷ gs) = g ++ concat gs
@@ -34,6 +36,7 @@ abbrev pub Above : WordKind → ℕ × ℕ → List (ℕ × ℕ) → Type 0
 Above o b [] = Unit {0}
 Above o b (c ∷ bs) = (o.before b c ≡ true) × Above o b bs
 
+-- The bounds rise.
 abbrev pub Ascending : WordKind → List (ℕ × ℕ) → Type 0
 Ascending o [] = Unit {0}
 Ascending o (b ∷ bs) = Above o b bs × Ascending o bs

@@ -2,16 +2,16 @@
 use Rattle.std.proofs.Common.{◌≡◌, ℕ, Bool, true, false, Some, None, Option, sym, refl, ap, ◌∙◌}
 use Rattle.std.proofs.lemmas.Bool.{true≢false}
 use Rattle.keys.specs.Kind.{Kind, Ordered, Formed}
-use Rattle.keys.specs.InWords.{in_words, keys_first, pair_before, WordOrdered}
+use Rattle.keys.specs.InWords.{in_words, keys_first, numbers_before, WordOrdered}
 use Rattle.keys.specs.Lexical.{same_pair, then_irreflexive, then_trans, then_tied, lt_irreflexive, lt_trans, lt_tied}
 
-pair_irreflexive : (v : ℕ × ℕ) → pair_before v v ≡ false
+pair_irreflexive : (v : ℕ × ℕ) → numbers_before v v ≡ false
 pair_irreflexive v = then_irreflexive v.0 _ (lt_irreflexive v.1)
 
-pair_transitive : (u v w : ℕ × ℕ) → pair_before u v ≡ true → pair_before v w ≡ true → pair_before u w ≡ true
+pair_transitive : (u v w : ℕ × ℕ) → numbers_before u v ≡ true → numbers_before v w ≡ true → numbers_before u w ≡ true
 pair_transitive u v w h k = then_trans u.0 v.0 w.0 _ _ _ h k (lt_trans u.1 v.1 w.1)
 
-pair_connected : (v w : ℕ × ℕ) → pair_before v w ≡ false → pair_before w v ≡ false → v ≡ w
+pair_connected : (v w : ℕ × ℕ) → numbers_before v w ≡ false → numbers_before w v ≡ false → v ≡ w
 pair_connected v w h k =
     let t = then_tied v.0 w.0 _ _ h k in
     same_pair v w t.0 (lt_tied v.1 w.1 t.1 t.2)
@@ -30,7 +30,7 @@ module _ {K : Type 0} (k : Kind K) (ordered : Ordered k) where
   first_transitive None None (Some c) r s t more h g = g
   first_transitive None None None r s t more h g = more h g
 
-  first_connected : Formed k → (v w : ℕ × ℕ) (o p : Option K) → k.read v ≡ o → k.read w ≡ p → keys_first k.before o p (pair_before v w) ≡ false → keys_first k.before p o (pair_before w v) ≡ false → v ≡ w
+  first_connected : Formed k → (v w : ℕ × ℕ) (o p : Option K) → k.read v ≡ o → k.read w ≡ p → keys_first k.before o p (numbers_before v w) ≡ false → keys_first k.before p o (numbers_before w v) ≡ false → v ≡ w
   first_connected formed v w (Some a) (Some b) d e h g =
       sym (formed.only v a d) ∙ ap k.form (ordered.connected a b h g) ∙ formed.only w b e
   first_connected formed v w (Some a) None d e h g = absurd (true≢false h)

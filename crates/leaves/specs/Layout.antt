@@ -3,12 +3,15 @@ use Rattle.std.specs.Prelude.{ℕ, ◌+◌, ◌-◌, ◌*◌, ◌≤◌, List, m
 use Rattle.std.specs.List.{range_with_len}
 use Rattle.leaves.specs.declared.leaf.Element.{Element}
 
+-- The word at an index; 0 where there is none.
 abbrev pub word : List ℕ → ℕ → ℕ
 word m i = slice_index m i
 
+-- The first word of leaf k, from 1: its next leaf.
 abbrev pub leaf_at : ℕ → ℕ
 leaf_at k = 8 + 72 * (k - 1)
 
+-- A leaf's own three words: the next leaf, the count of its elements, the form.
 abbrev pub next_of : List ℕ → ℕ → ℕ
 next_of m k = word m (leaf_at k)
 
@@ -18,6 +21,7 @@ count_of m k = word m (leaf_at k + 1)
 abbrev pub form_of : List ℕ → ℕ → ℕ
 form_of m k = word m (leaf_at k + 2)
 
+-- The first word of slot s of leaf k, from 0.
 abbrev pub slot_at : ℕ → ℕ → ℕ
 slot_at k s = leaf_at k + 8 + 4 * s
 

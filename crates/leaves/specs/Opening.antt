@@ -27,6 +27,7 @@ abbrev pub sign_fits : ℕ → ℕ → Option ℕ → Bool
 sign_fits sign r None = sign == 1
 sign_fits sign r (Some v) = sign == 2 && r == v
 
+-- After the bound of the leaf before; before the first leaf there is none.
 abbrev pub after : WordKind → Option (ℕ × ℕ) → ℕ × ℕ → Bool
 after o None k = true
 after o (Some b) k = o.before b k
@@ -46,6 +47,7 @@ abbrev pub first_bad_of : WordKind → Option (ℕ × ℕ) → List Pair → ℕ
 first_bad_of o bound ps s [] = None
 first_bad_of o bound ps s (e ∷ es) = cond (good o bound ps e) (first_bad_of o bound (applied o e ps) (s + 1) es) (Some (s + 1))
 
+-- The first fault of a leaf, told as the slot's number plus 1: before its slots, told as 0, more than 16 elements, another form than 0, or none in a leaf that is not alone.
 abbrev pub leaf_fault : WordKind → List ℕ → Option (ℕ × ℕ) → Bool → ℕ → Option ℕ
 leaf_fault o m bound alone k =
     cond (nat_le (count_of m k) 16 && form_of m k == 0 && (alone || nat_lt 0 (count_of m k)))
@@ -65,6 +67,7 @@ greatest o m k (suc n) = Some (later o (element m k n).key (greatest o m k n))
 abbrev pub greatest_key : WordKind → List Element → Option (ℕ × ℕ)
 greatest_key o es = reduce (λ a b. if o.before a b then b else a) (map (λ (e : Element). e.key) es)
 
+-- A number stands in a list.
 abbrev pub member : ℕ → List ℕ → Bool
 member x [] = false
 member x (y ∷ ys) = x == y || member x ys
@@ -105,7 +108,8 @@ head_answer o m =
     (cond (nat_lt (length m) (8 + 72 * word m 3)) (Err WrongLength)
     (Ok (word m 3, word m 2))))))
 
--- One leaf always stays free.
+-- What opening answers: the length, the mark, the code, the number of leaves and the length for them, in this order; then the chain. One leaf always
+-- stays free, so that of N leaves no more than N - 1 can be linked.
 abbrev pub open_answer : WordKind → List ℕ → Result (List ℕ) Fault
 open_answer o m =
     cond (nat_lt (length m) 152) (Err (plain WrongLength))

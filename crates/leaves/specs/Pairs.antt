@@ -6,18 +6,22 @@ use Rattle.leaves.specs.declared.leaf.Element.{Element}
 use Rattle.leaves.specs.declared.leaf.Pair.{Pair}
 use Rattle.leaves.specs.Layout.{element}
 
+-- The same two words.
 abbrev pub equal : ℕ × ℕ → ℕ × ℕ → Bool
 equal a b = a.0 == b.0 && a.1 == b.1
 
+-- The reading of a key in some pairs, or none.
 abbrev pub lookup : ℕ × ℕ → List Pair → Option ℕ
 lookup w [] = None
 lookup w (p ∷ ps) = cond (equal p.key w) (Some p.reading) (lookup w ps)
 
+-- Pairs that ascend with one more in its place; it replaces the pair of the same key.
 abbrev pub insert : WordKind → Pair → List Pair → List Pair
 insert o q [] = q ∷ []
 insert o q (p ∷ ps) =
     cond (o.before p.key q.key) (p ∷ insert o q ps) (q ∷ cond (o.before q.key p.key) (p ∷ ps) ps)
 
+-- The pairs without those of a key.
 abbrev pub delete : ℕ × ℕ → List Pair → List Pair
 delete w ps = filter (λ p. not (equal p.key w)) ps
 

@@ -16,6 +16,7 @@ pub record Choosing : Type 0 where
   pub many : ℕ
   pub place : ℕ → ℕ
 
+-- A memory's meaning.
 pub record Words : Type 0 where
   pub live : List ℕ
   pub firm : List ℕ

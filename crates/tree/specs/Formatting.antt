@@ -27,6 +27,7 @@ abbrev pub begun : WordKind → Words → ℕ → Answer → Run
 begun o m n (Ok _) = formatted o m n
 begun o m n (Err e) = outcome m 0 (Err e)
 
+-- What a format answers, and what it leaves of the words.
 abbrev pub format_run : WordKind → State → Words → ℕ → Run
 format_run o s m n = begun o m n (format_check s m n)
 
@@ -35,10 +36,12 @@ abbrev pub ended_shape : Answer → Shape
 ended_shape (Ok _) = groups ((entry 1 (0, 0) ∷ []) ∷ [])
 ended_shape (Err e) = dark
 
+-- The state after a format by its own check and by how its writes ended.
 abbrev pub shape_after : Shape → Answer → Answer → Shape
 shape_after before (Ok _) ended = ended_shape ended
 shape_after before (Err e) ended = before
 
+-- The state after a format.
 abbrev pub format_shape : WordKind → State → Words → ℕ → Shape
 format_shape o s m n = shape_after (shape_of s) (format_check s m n) (format_run o s m n).ended
 

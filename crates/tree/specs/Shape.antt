@@ -21,6 +21,7 @@ pub data Shape : Type 0 where
   groups : List (List Entry) → Shape
   dark : Shape
 
+-- The shape of a logbook's state.
 abbrev pub shape_of : State → Shape
 shape_of Blank = blank
 shape_of (Open x) = groups (grouped x)
@@ -41,6 +42,7 @@ abbrev pub top_told : Result (Option (ℕ × ℕ)) Refusal → ℕ × ℕ
 top_told (Ok best) = value best
 top_told (Err e) = (0, 0)
 
+-- The same by the answer of the leaf.
 abbrev pub top_at : WordKind → List ℕ → ℕ → ℕ × ℕ
 top_at o m k = top_told (counted m k (greatest o m k))
 
@@ -61,6 +63,7 @@ abbrev pub found_shape : WordKind → List ℕ → Result (List ℕ) Fault → S
 found_shape o m (Ok ks) = groups (singles (paired ks (tops o m ks)))
 found_shape o m (Err e) = blank
 
+-- The state after an open: a dark logbook stays dark.
 abbrev pub open_shape : WordKind → List ℕ → State → Shape
 open_shape o m Blank = found_shape o m (open_answer o m)
 open_shape o m (Open x) = found_shape o m (open_answer o m)

@@ -1,7 +1,7 @@
 // Making stamps, and stamps as keys.
 ghost use Rattle.std.specs.Prelude.{◌≡◌};
 ghost use Rattle.keys.specs.Dates.{valid_stamp};
-ghost use Rattle.keys.specs.InWords.{in_words, pair_before};
+ghost use Rattle.keys.specs.InWords.{in_words, numbers_before};
 ghost use Rattle.keys.specs.Stamps.{stamp_of, stamp_kind};
 ghost use Rattle.keys.specs.StampLaws;
 
@@ -23,7 +23,7 @@ fn is_stamp(year: u64, day: u64, millisecond: u64) -> bool
 // By first and then second words.
 #[inline(always)]
 fn first_before(a: (u64, u64), b: (u64, u64)) -> bool
-    ensures { result ≡ pair_before a b }
+    ensures { result ≡ numbers_before a b }
 {
     a < b
 }
