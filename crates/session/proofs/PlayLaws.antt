@@ -7,7 +7,7 @@ use Rattle.memory.specs.Meaning.{Settled, Words}
 use Rattle.plans.specs.Told.{by_rule}
 use Rattle.writes.specs.Writes.{Answer, Run}
 use Rattle.books.specs.Format.{Roomy, formatted}
-use Rattle.histories.specs.Law.{FormatGranted, after_format}
+use Rattle.histories.specs.Law.{FormatGranted}
 use Rattle.histories.proofs.ListLaws.{law_by_rule_holds}
 use Rattle.histories.specs.Histories.{Event, History}
 use Rattle.index.specs.Nodes.{entry}

@@ -6,7 +6,7 @@ use Rattle.books.specs.Bounds.{locate}
 use Rattle.plans.specs.declared.deed.Deed.{Deed}
 use Rattle.plans.specs.Deeds.{key_of}
 use Rattle.plans.specs.Told.{by_rule}
-use Rattle.histories.specs.Outcome.{State, Logbook, blank, in_use, dark}
+use Rattle.histories.specs.Outcome.{State, Logbook, in_use}
 use Rattle.histories.specs.Histories.{Event, called, asked, cut, after}
 use Rattle.histories.specs.Law.{after_format}
 use Rattle.index.specs.declared.node.Entry.{Entry}
