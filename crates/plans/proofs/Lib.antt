@@ -7,3 +7,4 @@ pub mod PlanLaws
 pub mod RisingLaws
 pub mod SortLaws
 pub mod ExampleLaws
+pub mod ReachLaws

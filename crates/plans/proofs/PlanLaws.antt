@@ -44,21 +44,21 @@ use Rattle.plans.proofs.SiteLaws.{place_of, belongs_at, site_place}
 use Rattle.plans.proofs.Lengths.{pairs_most, length_changed}
 
 -- What is asked of a call's elements at its leaf.
-record Ready (o : WordKind) (m pre : List ℕ) (k : ℕ) (post : List ℕ) (d : Deed) (xs : List (ℕ × ℕ)) : Type 0 where
-  goes : Goes d (lookup (key_of d) (book o m))
-  fits : count_of m k + length xs ≤ 16 → Appendable o m pre k post (key_of d) xs
-  short : length xs ≤ 2
-  does : all_applied o (key_of d) xs (book o m) ≡ done o d (book o m)
-  some : 16 < count_of m k + length xs → 0 < length (all_applied o (key_of d) xs (pairs_of o m k))
-  most : length (all_applied o (key_of d) xs (pairs_of o m k)) ≤ most_pairs (call_of d)
+pub record Ready (o : WordKind) (m pre : List ℕ) (k : ℕ) (post : List ℕ) (d : Deed) (xs : List (ℕ × ℕ)) : Type 0 where
+  pub goes : Goes d (lookup (key_of d) (book o m))
+  pub fits : count_of m k + length xs ≤ 16 → Appendable o m pre k post (key_of d) xs
+  pub short : length xs ≤ 2
+  pub does : all_applied o (key_of d) xs (book o m) ≡ done o d (book o m)
+  pub some : 16 < count_of m k + length xs → 0 < length (all_applied o (key_of d) xs (pairs_of o m k))
+  pub most : length (all_applied o (key_of d) xs (pairs_of o m k)) ≤ most_pairs (call_of d)
 
 module _ (o : WordKind) (m : List ℕ) where
-  counted : (ks : List ℕ) → Counted (next_leaf o m ks)
+  pub counted : (ks : List ℕ) → Counted (next_leaf o m ks)
   counted [] = tt
   counted (k ∷ ks) = pairs_most o m k (count_of m k)
 
   -- A merge that may be takes at most 16 pairs.
-  merged_few : (n : ℕ) (ks : List ℕ) → Mergeable n (next_leaf o m ks) → n + length (all_pairs o m (take 1 ks)) ≤ 16
+  pub merged_few : (n : ℕ) (ks : List ℕ) → Mergeable n (next_leaf o m ks) → n + length (all_pairs o m (take 1 ks)) ≤ 16
   merged_few n [] h = absurd h
   merged_few n (k ∷ ks) h = omega (arith, h, length-append (pairs_of o m k) [])
 
@@ -224,7 +224,7 @@ module _ (choose : Choice) (lawful : Lawful choose) (o : WordKind) (ordered : Wo
     found : lookup w (book o m) ≡ lookup w here
     found = finds_hold o ordered m pre k post w belongs
 
-    put_ready : (r : ℕ) → lookup w here ≡ None → Ready o m pre k post (Put w r) (put_elements r)
+    pub put_ready : (r : ℕ) → lookup w here ≡ None → Ready o m pre k post (Put w r) (put_elements r)
     put_ready r is =
         let more = length_insert o ordered (record { key = w; reading = r }) here is in
         record {
@@ -236,7 +236,7 @@ module _ (choose : Choice) (lawful : Lawful choose) (o : WordKind) (ordered : Wo
           most = omega (arith, more, few);
         }
 
-    change_ready : (v r : ℕ) → lookup w here ≡ Some v → v ≢ r → Ready o m pre k post (Change w r) (change_elements v r)
+    pub change_ready : (v r : ℕ) → lookup w here ≡ Some v → v ≢ r → Ready o m pre k post (Change w r) (change_elements v r)
     change_ready v r is other =
         let as_many = length_changed o ordered w v r here up is in
         let one = length_delete o ordered w v here up is in
@@ -249,7 +249,7 @@ module _ (choose : Choice) (lawful : Lawful choose) (o : WordKind) (ordered : Wo
           most = omega (arith, as_many, few);
         }
 
-    remove_ready : (v : ℕ) → lookup w here ≡ Some v → Ready o m pre k post (Remove w) (remove_elements v)
+    pub remove_ready : (v : ℕ) → lookup w here ≡ Some v → Ready o m pre k post (Remove w) (remove_elements v)
     remove_ready v is =
         let less = length_delete o ordered w v here up is in
         record {

@@ -6,3 +6,4 @@ pub mod Plan
 pub mod Laws
 pub mod Sorts
 pub mod Example
+pub mod Reach

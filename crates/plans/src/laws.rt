@@ -4,6 +4,7 @@ ghost use Rattle.plans.specs.Deeds.{CallsChange, NothingChanges};
 ghost use Rattle.plans.specs.Example.{Example};
 ghost use Rattle.plans.specs.Free.{AllCandidates, AlwaysFree, TakesFree};
 ghost use Rattle.plans.specs.Laws.{BoundsRise, CommitsChange, PlansHold, RemovesGo};
+ghost use Rattle.plans.specs.Reach.{ReachesFew, ReachesInArea};
 ghost use Rattle.plans.specs.Sorts.{AppendsWithRoom, BoundsMove, LastIsGreatest};
 ghost use Rattle.plans.specs.Told.{DecisionLawful};
 
@@ -14,6 +15,13 @@ pub fn plans_stand()
     ensures removes { RemovesGo }
     ensures commits { CommitsChange }
     ensures rise { BoundsRise }
+{}
+
+// A plan stores only into the word that links the call's leaf, the count and the free slots of this leaf, and free leaves: so into word 2
+// and the leaves alone.
+pub fn reach_stands()
+    ensures few { ReachesFew }
+    ensures area { ReachesInArea }
 {}
 
 // A call has something to do just where it changes the book.

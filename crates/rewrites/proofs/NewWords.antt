@@ -78,7 +78,7 @@ module _ (next : ℕ) (f : Filling) (few : length f.content ≤ 16) where
       (pair_lines_spare f.leaf 0 f.content i (⊎_elim (λ b. inl (omega arith)) (λ a. inr (omega arith)) h))
       (⊎_elim (λ b. row_spared i (leaf_at f.leaf) (next ∷ length f.content ∷ 0 ∷ []) b) (λ a. row_spared_after i (leaf_at f.leaf) (next ∷ length f.content ∷ 0 ∷ []) (omega arith)) h, tt)
 
-  leaf_lines_proper : (size : ℕ) → leaf_at f.leaf + 72 ≤ size → Proper size (leaf_lines next f)
+  pub leaf_lines_proper : (size : ℕ) → leaf_at f.leaf + 72 ≤ size → Proper size (leaf_lines next f)
   leaf_lines_proper size h =
       let l : length (next ∷ length f.content ∷ 0 ∷ []) ≡ 3 = refl in
       proper_append size (pair_lines f.leaf 0 f.content) _

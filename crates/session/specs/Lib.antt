@@ -1,3 +1,4 @@
+pub mod Grouping
 pub mod Playing
 pub mod Sessions
 pub mod Hearing

@@ -16,8 +16,9 @@ use Rattle.index.specs.Showing.{node_told, told as shown}
 use Rattle.plans.specs.declared.deed.Deed.TheVariants as deed
 use Rattle.plans.specs.Told.{by_rule}
 use Rattle.histories.specs.PlainBook.{find, next as next_after, pairs, Reply, reading, pair, number, refused}
-use Rattle.histories.specs.Outcome.{State, Logbook, blank, in_use, dark}
+use Rattle.histories.specs.Outcome.{Logbook, blank, in_use, dark}
 use Rattle.histories.specs.Histories.{Event, called, asked, cut, after}
+use Rattle.session.specs.Grouping.{Indexed, groups_after}
 use Rattle.session.specs.declared.act.Act.{Act}
 use Rattle.session.specs.declared.act.Act.TheVariants.{Put, Change, Remove, Find, Next, Pairs, Node, Cut}
 use Rattle.session.specs.declared.act.Told.{Told}
@@ -49,34 +50,34 @@ abbrev pub NodeShown : Bool → List (List Entry) → ℕ → Told → Type 0
 NodeShown true gs i t = t ≡ told.Refused Outside
 NodeShown false gs i t = (r : NodeRecord) × (t ≡ told.Node r) × (shown r ≡ node_told gs i)
 
--- What is told of node i of a logbook: its leaves and bounds in groups, in their order.
-abbrev pub NodeTold : Logbook → ℕ → Told → Type 0
-NodeTold blank i t = t ≡ told.Refused Blank
-NodeTold (in_use tree) i t =
-    (gs : List (List Entry)) × (numbers (concat gs) ≡ tree.leaves) × (front (bounds (concat gs)) ≡ tree.bounds) × NodeShown (nat_lt 90 i) gs i t
-NodeTold dark i t = t ≡ told.Refused NoPower
+-- What is told of node i of a logbook, whose index has these groups: they are its leaves and bounds in their order.
+abbrev pub NodeTold : Logbook → List (List Entry) → ℕ → Told → Type 0
+NodeTold blank gs i t = t ≡ told.Refused Blank
+NodeTold (in_use tree) gs i t =
+    (numbers (concat gs) ≡ tree.leaves) × (front (bounds (concat gs)) ≡ tree.bounds) × NodeShown (nat_lt 90 i) gs i t
+NodeTold dark gs i t = t ≡ told.Refused NoPower
 
 -- What comes of an act in a state: a call, a question or a cut happens, and this is told of it. A node that is asked for is no event, and a cut with too few choices does not happen.
-abbrev pub Happened : {K : Type 0} → Kind K → List ℕ → State → Act K → Option Event → Told → Type 0
+abbrev pub Happened : {K : Type 0} → Kind K → List ℕ → Indexed → Act K → Option Event → Told → Type 0
 Happened k choices s (Put key r) (Some (called d a e)) t = (d ≡ deed.Put (k.form key) r) × (t ≡ steps_told a.result a.steps)
 Happened k choices s (Change key r) (Some (called d a e)) t = (d ≡ deed.Change (k.form key) r) × (t ≡ steps_told a.result a.steps)
 Happened k choices s (Remove key) (Some (called d a e)) t = (d ≡ deed.Remove (k.form key)) × (t ≡ removed_told a.result a.steps)
 Happened k choices s (Find key) (Some (asked q r)) t = (q ≡ find (k.form key)) × (t ≡ replied r)
 Happened k choices s (Next key) (Some (asked q r)) t = (q ≡ next_after (k.form key)) × (t ≡ replied r)
 Happened k choices s Pairs (Some (asked q r)) t = (q ≡ pairs) × (t ≡ replied r)
-Happened k choices s (Node i) None t = NodeTold s.logbook i t
+Happened k choices s (Node i) None t = NodeTold s.state.logbook s.groups i t
 Happened k choices s (Cut from steps) (Some (cut words power)) t =
-    (settle_answer s.memory (drop from choices) ≡ Ok tt) × (words ≡ (chosen s.memory (drop from choices) steps).live) × (power ≡ renewed s.memory.power steps) × (t ≡ opened_told (open_answer (in_words k) words))
-Happened k choices s (Cut from steps) None t = (settle_answer s.memory (drop from choices) ≡ Err WrongLength) × (t ≡ told.Refused WrongLength)
+    (settle_answer s.state.memory (drop from choices) ≡ Ok tt) × (words ≡ (chosen s.state.memory (drop from choices) steps).live) × (power ≡ renewed s.state.memory.power steps) × (t ≡ opened_told (open_answer (in_words k) words))
+Happened k choices s (Cut from steps) None t = (settle_answer s.state.memory (drop from choices) ≡ Err WrongLength) × (t ≡ told.Refused WrongLength)
 Happened k choices s _ _ t = ⊥
 
--- The state after it.
-abbrev pub onward : {K : Type 0} → Kind K → State → Option Event → State
+-- The state after it, and the groups.
+abbrev pub onward : {K : Type 0} → Kind K → Indexed → Option Event → Indexed
 onward k s None = s
-onward k s (Some e) = after by_rule (in_words k) s e
+onward k s (Some e) = record { state = after by_rule (in_words k) s.state e; groups = groups_after (in_words k) s e }
 
 -- A list of acts, what came of each, and what was told.
-abbrev pub Played : {K : Type 0} → Kind K → List ℕ → State → List (Act K) → List (Option Event) → List Told → Type 0
+abbrev pub Played : {K : Type 0} → Kind K → List ℕ → Indexed → List (Act K) → List (Option Event) → List Told → Type 0
 Played k choices s [] [] [] = Unit {0}
 Played k choices s (a ∷ acts) (e ∷ es) (t ∷ ts) = Happened k choices s a e t × Played k choices (onward k s e) acts es ts
 Played k choices s _ _ _ = ⊥

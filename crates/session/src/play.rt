@@ -1,6 +1,6 @@
 // A list of calls and cuts, played on one logbook.
 ghost use Rattle.std.specs.Prelude.{◌≡◌, ◌⊎◌, min, drop, length, take, Ok};
-ghost use Rattle.histories.specs.Outcome.{State};
+ghost use Rattle.session.specs.Grouping.{Indexed};
 ghost use Rattle.session.specs.Hearing.{NodeHeard, heard_cut, heard_found, heard_next, heard_number, heard_removed, heard_steps};
 ghost use Rattle.session.specs.Sessions.{Carried, CarriedAll, Same, Session};
 ghost use Rattle.keys.specs.InWords.{in_words};
@@ -93,7 +93,7 @@ fn choices_from(choices: &[u64], from: usize) -> &[u64]
 
 // One act.
 fn carry<K: Key, M: Settle>(logbook: &mut Logbook<K, M>, act: &Act<K>, choices: &[u64]) -> Told
-    ensures { (s : State) → Same (M.Memory.meaning logbook.old.memory) logbook.old.state logbook.old.taken s → Sound (in_words K.Key.kind) (M.Memory.meaning logbook.old.memory).live logbook.old.state → Carried K.Key.kind choices.now s act.now result (M.Memory.meaning logbook.new.memory) logbook.new.state logbook.new.taken }
+    ensures { (s : Indexed) → Same (M.Memory.meaning logbook.old.memory) logbook.old.state logbook.old.taken s → Sound (in_words K.Key.kind) (M.Memory.meaning logbook.old.memory).live logbook.old.state → Carried K.Key.kind choices.now s act.now result (M.Memory.meaning logbook.new.memory) logbook.new.state logbook.new.taken }
 {
     match act {
         Act::Put { key, reading } => steps(logbook.put(key, *reading)),
@@ -114,7 +114,7 @@ fn play_on<K: Key, M: Settle>(
     choices: &[u64],
     told: &mut [Told],
 )
-    ensures played { (s : State) → Same (M.Memory.meaning logbook.old.memory) logbook.old.state logbook.old.taken s → Sound (in_words K.Key.kind) (M.Memory.meaning logbook.old.memory).live logbook.old.state → CarriedAll K.Key.kind choices.now s (take (min (length acts.now) (length told.old)) acts.now) (take (min (length acts.now) (length told.old)) told.new) (M.Memory.meaning logbook.new.memory) logbook.new.state logbook.new.taken }
+    ensures played { (s : Indexed) → Same (M.Memory.meaning logbook.old.memory) logbook.old.state logbook.old.taken s → Sound (in_words K.Key.kind) (M.Memory.meaning logbook.old.memory).live logbook.old.state → CarriedAll K.Key.kind choices.now s (take (min (length acts.now) (length told.old)) acts.now) (take (min (length acts.now) (length told.old)) told.new) (M.Memory.meaning logbook.new.memory) logbook.new.state logbook.new.taken }
     ensures rest { (length told.new ≡ length told.old) × (drop (min (length acts.now) (length told.old)) told.new ≡ drop (min (length acts.now) (length told.old)) told.old) }
 {
     for i in 0..acts.len().min(told.len()) {

@@ -31,7 +31,7 @@ use Rattle.tree.specs.Turning.{Working, by_plan, call_ending, changed, ending, n
 use Rattle.tree.proofs.TurnLaws.{called, leaf_is}
 
 -- A tree that stays is not regrouped.
-same_tree : (x : Index) (n : ℕ) (taken : Option ℕ) → regrouped (grouped x) n (tree_of x taken) ≡ grouped x
+pub same_tree : (x : Index) (n : ℕ) (taken : Option ℕ) → regrouped (grouped x) n (tree_of x taken) ≡ grouped x
 same_tree x n taken =
     let gs = grouped x in
     let long : length (numbers (concat gs)) ≡ length (concat gs) = length-map (concat gs) _ in

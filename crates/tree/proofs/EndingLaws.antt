@@ -51,7 +51,7 @@ record Written (o : WordKind) (m : Words) (x : Index) (d : Deed) (before : List 
   lists : Lists (regrouped (grouped x) (number_for o x (key_of d)) after) after
 
 -- A writing call is granted whole or broken off.
-wrote_ends : (P : Ending → Type 0) (after : Words) (steps : ℕ) (a : Answer) (shape : Shape) (old new : Option ℕ)
+pub wrote_ends : (P : Ending → Type 0) (after : Words) (steps : ℕ) (a : Answer) (shape : Shape) (old new : Option ℕ)
     → (a ≡ Ok tt → P (ending (Ok steps) after shape new)) → ((e : Refusal) → a ≡ Err e → P (ending (Err (halted e steps)) after dark old))
     → P (wrote after steps a shape old new)
 wrote_ends P after steps (Ok tt) shape old new granted broken = granted refl

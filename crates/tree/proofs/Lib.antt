@@ -8,3 +8,5 @@ pub mod RewriteLaws
 pub mod RegroupLaws
 pub mod KeptLaws
 pub mod EndingLaws
+pub mod AnywhereLaws
+pub mod ElsewhereLaws

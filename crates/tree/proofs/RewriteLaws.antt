@@ -1,5 +1,5 @@
 -- A rewrite comes to what its plan says: the leaves beside the key's, the word that links it, and the groups after.
-use Rattle.std.proofs.Common.{◌≡◌, ℕ, zero, suc, ◌+◌, ◌-◌, ◌/◌, ◌<◌, ◌≤◌, Bool, true, false, ◌||◌, List, [], ◌∷◌, ◌++◌, length, take, drop, ltb, eqb, get_or, is_some, Ok, Err, Option, Result, None, Some, sym, refl, ap, ◌∙◌, subst, ⊎_elim, zero-add, arith}
+use Rattle.std.proofs.Common.{◌≡◌, ℕ, zero, suc, ◌+◌, ◌-◌, ◌*◌, ◌/◌, ◌<◌, ◌≤◌, Bool, true, false, ◌||◌, List, [], ◌∷◌, ◌++◌, length, take, drop, ltb, eqb, get_or, is_some, Ok, Err, Option, Result, None, Some, sym, refl, ap, ◌∙◌, subst, ⊎_elim, zero-add, arith}
 use Rattle.std.specs.Option.{ok_or, option_map, unwrap_or}
 use Rattle.std.proofs.lemmas.Bool.{cases_lt, cond-true, cond-false, leb-true, lt-ltb, le-ltb, and_from, true≢false}
 use Rattle.std.proofs.lemmas.Bool.Decides.{nat_tests}
@@ -46,11 +46,14 @@ use Rattle.tree.specs.declared.logbook.place.Home.{Home}
 use Rattle.tree.specs.declared.logbook.adopt.Regroup.TheVariants.{Split, Merge, Replace}
 use Rattle.tree.specs.declared.logbook.State.TheVariants.{Open}
 use Rattle.tree.specs.Shape.{groups}
-use Rattle.tree.specs.Turning.{Ending, Links, Working, MergesWith, by_plan, count_next, decided_ending, ending, number_for, place_of, regroup_to, regrouped, rewrite_ending, some_of, tree_of, wrote}
+use Rattle.tree.specs.Turning.{Ending, Links, Takes, Working, MergesWith, has_leaf, by_plan, count_next, decided_ending, ending, number_for, place_of, regroup_to, regrouped, rewrite_ending, some_of, tree_of, wrote}
 use Rattle.tree.specs.Walk.{leaf_of, past_of}
 use Rattle.tree.proofs.LocatedLaws.{number_at}
 use Rattle.tree.proofs.TurnLaws.{leaf_there, number_is, same_some}
 use Rattle.tree.proofs.WalkLaws.{Counted, counted_drop, length_pairs, sound_all}
+
+pub has_of : (size k : ℕ) → 1 ≤ k → k ≤ 64 → 8 + 72 * k ≤ size → has_leaf size k ≡ true
+has_of size k some most long = grind (arith, nat_tests)
 
 -- A number of a leaf has its place, and what stands there is the leaf of that number.
 module _ (gs : List (List Entry)) where
@@ -97,12 +100,12 @@ not_there leaf (k ∷ ks) zero free h = (or_no (eqb leaf k) (member leaf ks) fre
 not_there leaf (k ∷ ks) (suc i) free h = not_there leaf ks i (or_no (eqb leaf k) (member leaf ks) free).1 (omega arith)
 
 -- The place before the one of a number, and the word that links the leaf there.
-links_to : (gs : List (List Entry)) (p : Place) (n at : ℕ) → within gs p ≡ true → position gs p ≡ n → ((i : ℕ) → i < length (concat gs) → get_or (numbers (concat gs)) i 0 ≤ 64)
-    → Links (leaf_of gs (place_before gs p)) at → (link_at 2 (take n (numbers (concat gs))) ≡ at) × (at ≤ 4544)
-links_to gs p zero at t is small l =
+links_to : (gs : List (List Entry)) (p : Place) (n at most : ℕ) → within gs p ≡ true → position gs p ≡ n → ((i : ℕ) → i < length (concat gs) → get_or (numbers (concat gs)) i 0 ≤ most) → 1 ≤ most → most ≤ 64
+    → Links (leaf_of gs (place_before gs p)) at → (link_at 2 (take n (numbers (concat gs))) ≡ at) × (at < 8 + 72 * most)
+links_to gs p zero at most t is small some few l =
     let before : place_before gs p ≡ None = cond-true (within gs p) _ _ t ∙ cond-false (ltb 0 (position gs p)) _ _ (grind (arith, nat_tests)) in
     let is : at ≡ 2 = subst (λ q. Links (leaf_of gs q) at) before l in (sym is, omega (arith, is))
-links_to gs p (suc i) at t is small l =
+links_to gs p (suc i) at most t is small some few l =
     let w = within_parts gs p t in
     let low : i < length (concat gs) = (let f = offset_within gs p.group p.slot w.0 w.1 in omega (arith, is)) in
     let at_i : position gs p - 1 ≡ i = omega (arith, is) in
@@ -110,7 +113,7 @@ links_to gs p (suc i) at t is small l =
     let k = get_or (numbers (concat gs)) i 0 in
     let link : Links (Some k) at = subst (λ (q : Option ℕ). Links q at) (ap (leaf_of gs) before ∙ leaf_number gs i low) l in
     let more : take (suc i) (numbers (concat gs)) ≡ take i (numbers (concat gs)) ++ (k ∷ []) = (let e : suc i ≡ i + 1 = omega arith in ap (λ j. take j (numbers (concat gs))) e ∙ take_more (numbers (concat gs)) i 0 (rw length-map low)) in
-    let is : at ≡ leaf_at k = link (small i low) in (ap (link_at 2) more ∙ link_after 2 (take i (numbers (concat gs))) k ∙ sym is, omega (arith, is, small i low))
+    let is : at ≡ leaf_at k = link (omega (arith, small i low, few)) in (ap (link_at 2) more ∙ link_after 2 (take i (numbers (concat gs))) k ∙ sym is, omega (arith, is, small i low, some))
 
 -- A rewrite at work.
 module _ (o : WordKind) (ordered : WordOrdered o) (m : List ℕ) (x : Index) (w : ℕ × ℕ) (h : Home) (work : Working o m x w h) where
@@ -189,10 +192,11 @@ module _ (o : WordKind) (ordered : WordOrdered o) (m : List ℕ) (x : Index) (w 
   pub few : (length (numbers (concat gs)) < word m 3) × (word m 3 ≤ 64) × (152 ≤ length m)
   few = let opens = opens_from o m (numbers (concat gs)) work.fits.opens in (opens.spare, opens.most, opens.long)
 
-  pub link_is : (at : ℕ) → Links (leaf_of gs (place_before gs h.place)) at → (link_at 2 (take n (numbers (concat gs))) ≡ at) × (at ≤ 4544)
+  pub link_is : (at : ℕ) → Links (leaf_of gs (place_before gs h.place)) at → (link_at 2 (take n (numbers (concat gs))) ≡ at) × (at ≤ 4615) × (at < length m)
   link_is at l =
       let opens = opens_from o m (numbers (concat gs)) work.fits.opens in
-      links_to gs h.place n at work.home.0.0 (number_is o ordered m x w h work) (λ i lt. let a = up_to_at (word m 3) (numbers (concat gs)) i opens.within (rw length-map lt) in omega (arith, a, opens.most)) l
+      let to = links_to gs h.place n at (word m 3) work.home.0.0 (number_is o ordered m x w h work) (λ i lt. up_to_at (word m 3) (numbers (concat gs)) i opens.within (rw length-map lt)) (omega (arith, opens.least)) opens.most l in
+      (to.0, omega (arith, to.1, opens.most), omega (arith, to.1, opens.fits))
 
   abbrev pre : List ℕ
   pre = take n (numbers (concat gs))
@@ -254,6 +258,26 @@ module _ (o : WordKind) (ordered : WordOrdered o) (m : List ℕ) (x : Index) (w 
       ∙ (ap (λ k. split gs h.place k (get_or t.bounds n (0, 0)) (get_or t.leaves (n + 1) 0)) one
       ∙ (ap (λ b. split gs h.place left b (get_or t.leaves (n + 1) 0)) bnd ∙ ap (split gs h.place left bound) two))))
 
+-- A new leaf can be taken, and where two are free a second one.
+module _ (o : WordKind) (ordered : WordOrdered o) (m : Words) (x : Index) (tk : Option ℕ) (w : ℕ × ℕ) (h : Home) (work : Working o m.live x w h) where
+  has_taken : (used : List ℕ) (last : Option ℕ) → length used < word m.live 3 → has_leaf (length m.live) (taken (word m.live 3) used last) ≡ true
+  has_taken used last spare =
+      let opens = opens_from o m.live (numbers (listed x)) work.fits.opens in
+      let t = taken_free (word m.live 3) used last spare in
+      has_of (length m.live) (taken (word m.live 3) used last) t.0 (omega (arith, t.1, opens.most)) (omega (arith, t.1, opens.fits))
+
+  pub takes : Takes m x tk h.place
+  takes =
+      let f = few o ordered m.live x w h work in
+      record {
+        told = omega (arith, f.2);
+        leaf = has_taken (numbers (listed x)) tk f.0;
+        link = λ at l. (link_is o ordered m.live x w h work at l).2;
+      }
+
+  pub takes_two : (one : ℕ) → length (numbers (listed x)) + 2 ≤ word m.live 3 → has_leaf (length m.live) (taken (word m.live 3) (one ∷ numbers (listed x)) (Some one)) ≡ true
+  takes_two one room = has_taken (one ∷ numbers (listed x)) (Some one) (omega (arith, room))
+
 -- How a rewrite ends, by its plan.
 pub concluded : (n : ℕ) (m : Words) (x : Index) (taken : Option ℕ) (before : List LineWrite) (commit : Store) (t : Tree) (e : Ending) (after : Words) (steps : ℕ) (written : Answer) (now : List (List Entry)) (last : ℕ)
     → e ≡ wrote after steps written (groups now) taken (Some last) → outcome after steps written ≡ perform m (change before commit) → now ≡ regrouped (grouped x) n t → Some last ≡ t.last
@@ -311,7 +335,7 @@ module _ (o : WordKind) (ordered : WordOrdered o) (m : Words) (x : Index) (tk : 
 
   pub replace_ends : (ps : List Pair) (leaf next : ℕ) → leaf ≡ one → next ≡ unwrap_or h.next 0
       → e ≡ wrote after steps written (groups (regroup_to (grouped x) h.place (Replace leaf))) tk (Some leaf)
-      → (1 ≤ leaf → leaf ≤ 64 → at ≤ 4544 → outcome after steps written ≡ onward 0 (perform m (leaf_lines next (record { leaf = leaf; content = ps }) ++ (single (record { at = at; word = leaf }) ∷ []))))
+      → (1 ≤ leaf → leaf ≤ 64 → at ≤ 4615 → outcome after steps written ≡ onward 0 (perform m (leaf_lines next (record { leaf = leaf; content = ps }) ++ (single (record { at = at; word = leaf }) ∷ []))))
       → e ≡ decided_ending o m x tk w ps decision.Replace
   replace_ends ps leaf next is next_at end run =
       let f = one_free in
@@ -327,7 +351,7 @@ module _ (o : WordKind) (ordered : WordOrdered o) (m : Words) (x : Index) (tk : 
   -- A merge, with the pairs of the next leaf after the key's.
   pub merge_ends : (ps qs : List Pair) (k leaf next : ℕ) → Some k ≡ h.next → qs ≡ ps ++ pairs_of o m.live k → leaf ≡ one → next ≡ unwrap_or (past_of (grouped x) (place_after (grouped x) h.place)) 0
       → e ≡ wrote after steps written (groups (regroup_to (grouped x) h.place (Merge leaf))) tk (Some leaf)
-      → (1 ≤ leaf → leaf ≤ 64 → at ≤ 4544 → outcome after steps written ≡ onward 0 (perform m (leaf_lines next (record { leaf = leaf; content = qs }) ++ (single (record { at = at; word = leaf }) ∷ []))))
+      → (1 ≤ leaf → leaf ≤ 64 → at ≤ 4615 → outcome after steps written ≡ onward 0 (perform m (leaf_lines next (record { leaf = leaf; content = qs }) ++ (single (record { at = at; word = leaf }) ∷ []))))
       → e ≡ decided_ending o m x tk w ps decision.Merge
   merge_ends ps qs k leaf next has all is next_at end run =
       let f = one_free in
@@ -369,7 +393,7 @@ module _ (o : WordKind) (ordered : WordOrdered o) (m : Words) (x : Index) (tk : 
   pub split_ends : (ps : List Pair) (share left right next : ℕ) (bound : ℕ × ℕ) → length row + 2 ≤ word m.live 3 → left ≡ one → right ≡ two → next ≡ unwrap_or h.next 0 → bound ≡ last_key (take share ps)
       → share ≤ 16 → share ≤ length ps → length ps ≤ 17 → length ps ≤ share + 16
       → e ≡ wrote after steps written (groups (regroup_to (grouped x) h.place (Split (entry left bound) right))) tk (Some right)
-      → (shared left right (length ps) share ≡ true → at ≤ 4544 → outcome after steps written ≡ onward 0 (perform m (leaf_lines right (record { leaf = left; content = take share ps }) ++ (leaf_lines next (record { leaf = right; content = drop share ps }) ++ (single (record { at = at; word = left }) ∷ [])))))
+      → (shared left right (length ps) share ≡ true → at ≤ 4615 → outcome after steps written ≡ onward 0 (perform m (leaf_lines right (record { leaf = left; content = take share ps }) ++ (leaf_lines next (record { leaf = right; content = drop share ps }) ++ (single (record { at = at; word = left }) ∷ [])))))
       → e ≡ decided_ending o m x tk w ps (decision.Split share)
   split_ends ps share left right next bound room l r next_at bound_is most part all others end run =
       let f = one_free in
@@ -407,8 +431,8 @@ last_key_of (q ∷ r ∷ ps) (suc i) p h is = last_key_of (r ∷ ps) i p (omega 
 pub last_key_at : (ps : List Pair) (share : ℕ) (p : Pair) → 1 ≤ share → share ≤ length ps → p ≡ get_or ps (share - 1) p → p.key ≡ last_key (take share ps)
 last_key_at ps share p some few is = let e : suc (share - 1) ≡ share = omega arith in last_key_of ps (share - 1) p (omega (arith, some, few)) is ∙ ap (λ i. last_key (take i ps)) e
 
-pub right_is : (a A b B r : ℕ) (ks : List ℕ) → ◌≡◌ {A = Result ℕ Refusal} (Ok r) (Ok (taken a (b ∷ ks) (Some b))) → a ≡ A → b ≡ B → r ≡ taken A (B ∷ ks) (Some B)
-right_is a A b B r ks e ea eb = let f : r ≡ taken a (b ∷ ks) (Some b) = cc in f ∙ (ap (λ n. taken n (b ∷ ks) (Some b)) ea ∙ ap (λ k. taken A (k ∷ ks) (Some k)) eb)
+pub right_is : (a A b B r : ℕ) (ks : List ℕ) → r ≡ taken a (b ∷ ks) (Some b) → a ≡ A → b ≡ B → r ≡ taken A (B ∷ ks) (Some B)
+right_is a A b B r ks f ea eb = f ∙ (ap (λ n. taken n (b ∷ ks) (Some b)) ea ∙ ap (λ k. taken A (k ∷ ks) (Some k)) eb)
 
 pub has_next : (next : Option ℕ) (k : ℕ) (e : Refusal) → ok_or next e ≡ Ok k → Some k ≡ next
 has_next None k e h = let z : ◌≡◌ {A = ℕ} 0 1 = cc in absurd (omega arith)

@@ -46,7 +46,7 @@ same_elements v es e = cc
 ok_same : (a b : Seen) → ◌≡◌ {A = Result Seen Refusal} (Ok a) (Ok b) → a ≡ b
 ok_same a b e = cc
 
-counted_within : (m : List ℕ) (k n : ℕ) → count_answer m k ≡ Ok n → Within m k
+pub counted_within : (m : List ℕ) (k n : ℕ) → count_answer m k ≡ Ok n → Within m k
 counted_within m k n e = (grind (arith, nat_tests), grind (arith, nat_tests), grind (arith, nat_tests))
 
 pub leaf_there : (gs : List (List Entry)) (p : Place) → within gs p ≡ true → leaf_of gs (Some p) ≡ Some (get_or (concat gs) (position gs p) (entry 0 (0, 0))).to

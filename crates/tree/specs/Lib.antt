@@ -7,3 +7,5 @@ pub mod Halting
 pub mod Turning
 pub mod Calls
 pub mod Cutting
+pub mod Anywhere
+pub mod Elsewhere

@@ -1,12 +1,12 @@
 -- What a put, change or remove answers and leaves, from its plan.
-use Rattle.std.specs.Prelude.{◌≡◌, ℕ, ◌+◌, ◌-◌, ◌≤◌, cond, List, [], ◌∷◌, length, None, Some, Ok, Err, Option, Result, ◌==◌, slice_index, slice_index_or}
+use Rattle.std.specs.Prelude.{◌≡◌, ℕ, ◌+◌, ◌-◌, ◌*◌, ◌^◌, ◌<◌, ◌≤◌, Bool, true, cond, ◌&&◌, nat_le, List, [], ◌∷◌, length, None, Some, Ok, Err, Option, Result, ◌==◌, slice_index, slice_index_or}
 use Rattle.std.specs.Option.{unwrap_or}
 use Rattle.fixed_vec.specs.declared.FixedVec.{FixedVec}
 use Rattle.fixed_vec.specs.Items.{items}
 use Rattle.refusal.specs.declared.Refusal.{Refusal}
-use Rattle.refusal.specs.declared.Refusal.TheVariants.{NoPower, Blank as NotOpened}
+use Rattle.refusal.specs.declared.Refusal.TheVariants.{NoPower, Outside, Blank as NotOpened}
 use Rattle.keys.specs.InWords.{WordKind}
-use Rattle.memory.specs.Meaning.{Words}
+use Rattle.memory.specs.Meaning.{Words, size_of}
 use Rattle.writes.specs.Writes.{Answer, perform}
 use Rattle.writes.specs.Laws.{change}
 use Rattle.leaves.specs.declared.leaf.Pair.{Pair}
@@ -155,6 +155,26 @@ pub record Taking (m : List ℕ) (x : Index) (last : Option ℕ) (p : Place) (ne
   pub linked : new.linked ≡ length (numbers (listed x))
   pub leaf : new.leaf ≡ taken (word m 3) (numbers (listed x)) last
   pub at : Links (leaf_of (grouped x) (place_before (grouped x) p)) new.at
+
+-- A memory of so many words has a leaf of this number.
+abbrev pub has_leaf : ℕ → ℕ → Bool
+has_leaf size k = nat_le 1 k && nat_le k 64 && nat_le (8 + 72 * k) size
+
+-- The leaf to take, if the memory has it.
+abbrev pub leaf_in : ℕ → ℕ → Result ℕ Refusal
+leaf_in size k = cond (has_leaf size k) (Ok k) (Err Outside)
+
+-- A new leaf can be taken in the place of one: the memory has the free one that comes next, and the word that will link it.
+pub record Takes (m : Words) (x : Index) (last : Option ℕ) (p : Place) : Type 0 where
+  pub told : 4 ≤ size_of m
+  pub leaf : has_leaf (size_of m) (taken (word m.live 3) (numbers (listed x)) last) ≡ true
+  pub link : (at : ℕ) → Links (leaf_of (grouped x) (place_before (grouped x) p)) at → at < size_of m
+
+-- The memory has a new leaf, and the word that will link it.
+pub record HasNew (size : ℕ) (new : New) : Type 0 where
+  pub leaf : has_leaf size new.leaf ≡ true
+  pub link : new.at < size
+  pub small : new.at + 1 < 2 ^ 64
 
 -- The count of the next leaf, if there is one.
 abbrev pub some_of : Result ℕ Refusal → Result (Option ℕ) Refusal

@@ -1,5 +1,5 @@
 // How a call's line writes end: granted whole, or broken off.
-ghost use Rattle.std.specs.Prelude.{◌≡◌, ◌+◌, ◌≤◌, length};
+ghost use Rattle.std.specs.Prelude.{◌≡◌, ◌+◌, ◌*◌, ◌≤◌, length};
 ghost use Rattle.writes.specs.Writes.{outcome, perform};
 ghost use Rattle.appends.specs.Append.{append_lines};
 ghost use Rattle.tree.specs.Halting.{ended, halted, state_after, steps_of};
@@ -57,6 +57,7 @@ impl<K: Key, M: Memory> Logbook<K, M> {
         elements: &[(u64, u64)],
     ) -> Result<usize, Halt>
         ensures done { 1 ≤ leaf → leaf ≤ 64 → count + length elements.now ≤ 16 → outcome (M.Memory.meaning self.new.memory) (steps_of result) (ended result) ≡ perform (M.Memory.meaning self.old.memory) (append_lines leaf count key elements.now) }
+        ensures few { steps_of result ≤ 5 * length elements.now + 2 }
         ensures state { self.new.state ≡ state_after self.old.state (ended result) }
         ensures taken { self.new.taken ≡ self.old.taken }
     {

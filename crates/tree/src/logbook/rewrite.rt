@@ -1,9 +1,9 @@
 // Rewrites: split, merge and replacement.
 ghost use Rattle.std.specs.Prelude.{◌≡◌, ℕ, ◌+◌, ◌∷◌, ◌++◌, ◌≤◌, length, take, Some, Ok, MatchResult};
+ghost use Rattle.refusal.specs.declared.Refusal.TheVariants.{Outside};
 ghost use Rattle.fixed_vec.specs.Items.{items};
 ghost use Rattle.keys.specs.InWords.{in_words};
-ghost use Rattle.leaves.specs.Layout.{word};
-ghost use Rattle.memory.specs.Meaning.{size_of};
+ghost use Rattle.memory.specs.Meaning.{read_answer, size_of};
 ghost use Rattle.rewrites.specs.Bounds.{last_key};
 ghost use Rattle.plans.specs.Plan.{taken};
 ghost use Rattle.plans.specs.declared.deed.Call.TheVariants.{Remove};
@@ -13,8 +13,9 @@ ghost use Rattle.index.specs.Meaning.{grouped, listed};
 ghost use Rattle.index.specs.Nodes.{numbers};
 ghost use Rattle.index.specs.Places.{place_after, place_before};
 ghost use Rattle.tree.specs.declared.logbook.State.TheVariants.{Open};
+ghost use Rattle.tree.specs.Anywhere.{Answered};
 ghost use Rattle.tree.specs.Shape.{shape_of};
-ghost use Rattle.tree.specs.Turning.{Links, MergesWith, Taking, Working, count_next, decided_ending, ending, rewrite_ending};
+ghost use Rattle.tree.specs.Turning.{HasNew, Links, MergesWith, Takes, Taking, Working, count_next, decided_ending, ending, has_leaf, leaf_in, rewrite_ending};
 ghost use Rattle.tree.specs.Walk.{leaf_of, past_of};
 
 use super::Logbook;
@@ -73,6 +74,13 @@ fn greatest(pairs: &[Pair], share: usize) -> (u64, u64)
     }
 }
 
+// Whether a memory of so many words has a leaf of this number.
+fn has_leaf(size: usize, leaf: usize) -> bool
+    ensures { result ≡ has_leaf size leaf }
+{
+    (1..=64).contains(&leaf) && 8 + 72 * leaf <= size
+}
+
 // A new leaf, and what it is taken for: how many leaves there are and are linked, and the word that will link it.
 #[derive(Clone, Copy)]
 pub(crate) struct New {
@@ -83,47 +91,58 @@ pub(crate) struct New {
 }
 
 impl<K: Key, M: Memory> Logbook<K, M> {
-    // How many leaves the memory has.
+    // How many leaves the memory has, by its word 3.
     fn leaves(&mut self) -> Result<usize, Refusal>
         ensures same { M.Memory.meaning self.new.memory ≡ M.Memory.meaning self.old.memory }
         ensures state { self.new.state ≡ self.old.state }
         ensures taken { self.new.taken ≡ self.old.taken }
-        ensures value { 4 ≤ size_of (M.Memory.meaning self.old.memory) → result ≡ Ok (word (M.Memory.meaning self.old.memory).live 3) }
+        ensures value { result ≡ read_answer (M.Memory.meaning self.old.memory) 3 }
     {
         Ok(self.memory.read(3)? as usize)
     }
 
-    // The free leaf that is taken next, to be linked in the place of one.
+    // The free leaf that is taken next, to be linked in the place of one; refused where the memory does not have it, or the word that will
+    // link it.
     fn new_leaf(&mut self, place: Place) -> Result<New, Refusal>
         ensures same { M.Memory.meaning self.new.memory ≡ M.Memory.meaning self.old.memory }
         ensures state { self.new.state ≡ self.old.state }
         ensures taken { self.new.taken ≡ self.old.taken }
-        ensures leaf { (x : AnIndex) → self.old.state ≡ Open x → 4 ≤ size_of (M.Memory.meaning self.old.memory) → MatchResult result (λ new. Taking (M.Memory.meaning self.old.memory).live x self.old.taken place new) (λ _. ⊥) }
+        ensures leaf { (x : AnIndex) → self.old.state ≡ Open x → MatchResult result (λ new. Taking (M.Memory.meaning self.old.memory).live x self.old.taken place new × HasNew (size_of (M.Memory.meaning self.old.memory)) new) (λ refusal. (refusal ≡ Outside) × (Takes (M.Memory.meaning self.old.memory) x self.old.taken place → ⊥)) }
     {
         let leaves = self.leaves()?;
         let index = self.index()?;
         let linked = used(index, &[]);
+        let leaf = next_free(leaves, linked.as_slice(), self.taken).unwrap_or(0);
+        let at = link_word(index, place);
+        let size = self.memory.size();
+        if !has_leaf(size, leaf) || size <= at {
+            return Err(Refusal::Outside);
+        }
         Ok(New {
             leaves,
             linked: linked.len(),
-            leaf: next_free(leaves, linked.as_slice(), self.taken).unwrap_or(0),
-            at: link_word(index, place),
+            leaf,
+            at,
         })
     }
 
-    // The free leaf that is taken after a new one.
+    // The free leaf that is taken after a new one; refused where the memory does not have it.
     fn second_leaf(&self, new: &New) -> Result<usize, Refusal>
-        ensures { (x : AnIndex) → self.now.state ≡ Open x → result ≡ Ok (taken new.now.leaves (new.now.leaf ∷ numbers (listed x)) (Some new.now.leaf)) }
+        ensures { (x : AnIndex) → self.now.state ≡ Open x → result ≡ leaf_in (size_of (M.Memory.meaning self.now.memory)) (taken new.now.leaves (new.now.leaf ∷ numbers (listed x)) (Some new.now.leaf)) }
     {
         let index = self.index()?;
         let linked = used(index, &[new.leaf]);
-        let second = next_free(new.leaves, linked.as_slice(), Some(new.leaf));
-        Ok(second.unwrap_or(0))
+        let second = next_free(new.leaves, linked.as_slice(), Some(new.leaf)).unwrap_or(0);
+        if !has_leaf(self.memory.size(), second) {
+            return Err(Refusal::Outside);
+        }
+        Ok(second)
     }
 
     // Two new leaves in the place of the key's; refused where two free ones are not to be had.
     fn split(&mut self, home: Home, pairs: &Run, share: usize) -> Result<usize, Halt>
         ensures done { (x : AnIndex) (w : ℕ × ℕ) → self.old.state ≡ Open x → Working (in_words K.Key.kind) (M.Memory.meaning self.old.memory).live x w home → 1 ≤ share → share ≤ 16 → share ≤ length (items pairs.now) → length (items pairs.now) ≤ share + 16 → ending result (M.Memory.meaning self.new.memory) (shape_of self.new.state) self.new.taken ≡ decided_ending (in_words K.Key.kind) (M.Memory.meaning self.old.memory) x self.old.taken w (items pairs.now) (SplitInto share) }
+        ensures any { (x : AnIndex) → self.old.state ≡ Open x → 1 ≤ share → share ≤ 16 → share ≤ length (items pairs.now) → length (items pairs.now) ≤ share + 16 → Answered (M.Memory.meaning self.old.memory) self.old.state self.old.taken (ending result (M.Memory.meaning self.new.memory) (shape_of self.new.state) self.new.taken) }
     {
         let new = self.new_leaf(home.place)?;
         if new.leaves.saturating_sub(new.linked) < 2 {
@@ -153,6 +172,7 @@ impl<K: Key, M: Memory> Logbook<K, M> {
     // One new leaf in the place of the key's and the next one.
     fn merge(&mut self, home: Home, pairs: &Run) -> Result<usize, Halt>
         ensures done { (x : AnIndex) (w : ℕ × ℕ) → self.old.state ≡ Open x → Working (in_words K.Key.kind) (M.Memory.meaning self.old.memory).live x w home → MergesWith (in_words K.Key.kind) (M.Memory.meaning self.old.memory).live home.next (length (items pairs.now)) → ending result (M.Memory.meaning self.new.memory) (shape_of self.new.state) self.new.taken ≡ decided_ending (in_words K.Key.kind) (M.Memory.meaning self.old.memory) x self.old.taken w (items pairs.now) Merged }
+        ensures any { (x : AnIndex) → self.old.state ≡ Open x → MergesWith (in_words K.Key.kind) (M.Memory.meaning self.old.memory).live home.next (length (items pairs.now)) → Answered (M.Memory.meaning self.old.memory) self.old.state self.old.taken (ending result (M.Memory.meaning self.new.memory) (shape_of self.new.state) self.new.taken) }
     {
         let merged = home.next.ok_or(Refusal::Outside)?;
         let elements = elements_in(&mut self.memory, merged)?;
@@ -179,6 +199,7 @@ impl<K: Key, M: Memory> Logbook<K, M> {
     // One new leaf in the place of the key's.
     fn replace(&mut self, home: Home, pairs: &Run) -> Result<usize, Halt>
         ensures done { (x : AnIndex) (w : ℕ × ℕ) → self.old.state ≡ Open x → Working (in_words K.Key.kind) (M.Memory.meaning self.old.memory).live x w home → length (items pairs.now) ≤ 16 → ending result (M.Memory.meaning self.new.memory) (shape_of self.new.state) self.new.taken ≡ decided_ending (in_words K.Key.kind) (M.Memory.meaning self.old.memory) x self.old.taken w (items pairs.now) Replaced }
+        ensures any { (x : AnIndex) → self.old.state ≡ Open x → length (items pairs.now) ≤ 16 → Answered (M.Memory.meaning self.old.memory) self.old.state self.old.taken (ending result (M.Memory.meaning self.new.memory) (shape_of self.new.state) self.new.taken) }
     {
         let new = self.new_leaf(home.place)?;
         let next = home.next.unwrap_or(0);
@@ -215,6 +236,7 @@ impl<K: Key, M: Memory> Logbook<K, M> {
     // Writes a key's leaf anew, with its pairs after the call.
     pub(crate) fn rewrite(&mut self, home: Home, pairs: &Run, call: Call) -> Result<usize, Halt>
         ensures done { (x : AnIndex) (w : ℕ × ℕ) → self.old.state ≡ Open x → Working (in_words K.Key.kind) (M.Memory.meaning self.old.memory).live x w home → (call ≡ Remove → length (items pairs.now) ≤ 16) → ending result (M.Memory.meaning self.new.memory) (shape_of self.new.state) self.new.taken ≡ rewrite_ending (in_words K.Key.kind) (M.Memory.meaning self.old.memory) x self.old.taken w call (items pairs.now) }
+        ensures any { (x : AnIndex) → self.old.state ≡ Open x → (call ≡ Remove → length (items pairs.now) ≤ 16) → Answered (M.Memory.meaning self.old.memory) self.old.state self.old.taken (ending result (M.Memory.meaning self.new.memory) (shape_of self.new.state) self.new.taken) }
     {
         let count = self.next_count(home.next)?;
         match decide(call.may_split(), pairs.len(), count) {

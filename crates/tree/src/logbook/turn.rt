@@ -2,7 +2,7 @@
 ghost use Rattle.std.specs.Prelude.{◌≡◌, ◌≤◌, [], length, IfOk};
 ghost use Rattle.fixed_vec.specs.Items.{items};
 ghost use Rattle.keys.specs.InWords.{in_words};
-ghost use Rattle.leaves.specs.Layout.{count_of};
+ghost use Rattle.leaves.specs.Layout.{Within, count_of};
 ghost use Rattle.leaves.specs.Pairs.{folded, lookup};
 ghost use Rattle.books.specs.Footprint.{book};
 ghost use Rattle.plans.specs.Deeds.{call_of, done, key_of};
@@ -11,6 +11,7 @@ ghost use Rattle.plans.specs.declared.deed.Deed.TheVariants.{Change, Put, Remove
 ghost use Rattle.plans.specs.Plan.{pairs_of, wish as wish_of};
 ghost use Rattle.index.specs.declared.table.Index.{Index};
 ghost use Rattle.tree.specs.declared.logbook.State.TheVariants.{Open};
+ghost use Rattle.tree.specs.Anywhere.{Answered, steps_told};
 ghost use Rattle.tree.specs.Shape.{shape_of};
 ghost use Rattle.tree.specs.Sound.{Sound};
 ghost use Rattle.tree.specs.Turning.{Working, call_ending, changed, ending, RemovalEnds, told, wished};
@@ -89,6 +90,7 @@ impl<K: Key, M: Memory> Logbook<K, M> {
         list: &[(u64, u64)],
     ) -> Result<usize, Halt>
         ensures done { (x : Index) → self.old.state ≡ Open x → Working (in_words K.Key.kind) (M.Memory.meaning self.old.memory).live x (key_of deed) home → count ≡ count_of (M.Memory.meaning self.old.memory).live home.leaf → changed list.now ≡ wish_of deed (lookup (key_of deed) (pairs_of (in_words K.Key.kind) (M.Memory.meaning self.old.memory).live home.leaf)) → ending result (M.Memory.meaning self.new.memory) (shape_of self.new.state) self.new.taken ≡ call_ending (in_words K.Key.kind) (M.Memory.meaning self.old.memory) (Open x) self.old.taken deed }
+        ensures any { (x : Index) → self.old.state ≡ Open x → Within (M.Memory.meaning self.old.memory).live home.leaf → Answered (M.Memory.meaning self.old.memory) self.old.state self.old.taken (ending result (M.Memory.meaning self.new.memory) (shape_of self.new.state) self.new.taken) }
     {
         if list.is_empty() {
             return Ok(0);
@@ -104,6 +106,7 @@ impl<K: Key, M: Memory> Logbook<K, M> {
     fn turn(&mut self, deed: Deed) -> Result<Done, Halt>
         ensures ending { Sound (in_words K.Key.kind) (M.Memory.meaning self.old.memory).live self.old.state → ending (told result) (M.Memory.meaning self.new.memory) (shape_of self.new.state) self.new.taken ≡ call_ending (in_words K.Key.kind) (M.Memory.meaning self.old.memory) self.old.state self.old.taken deed }
         ensures held { Sound (in_words K.Key.kind) (M.Memory.meaning self.old.memory).live self.old.state → IfOk result (λ done. done.held ≡ lookup (key_of deed) (book (in_words K.Key.kind) (M.Memory.meaning self.old.memory).live)) }
+        ensures any { Answered (M.Memory.meaning self.old.memory) self.old.state self.old.taken (ending (told result) (M.Memory.meaning self.new.memory) (shape_of self.new.state) self.new.taken) }
     {
         let home = self.home(deed.key())?;
         let seen = look_in(&mut self.memory, home.leaf, deed.key())?;
@@ -115,10 +118,12 @@ impl<K: Key, M: Memory> Logbook<K, M> {
         })
     }
 
-    // Adds a pair; refused where the key is in the book. Told: the steps.
+    // Adds a pair; refused where the key is in the book. Told: the steps. Here and in the next two, `any` holds of every memory, also of one
+    // whose words were changed past the logbook.
     pub fn put(&mut self, key: &K, reading: u64) -> Result<usize, Halt>
         ensures ending { Sound (in_words K.Key.kind) (M.Memory.meaning self.old.memory).live self.old.state → ending result (M.Memory.meaning self.new.memory) (shape_of self.new.state) self.new.taken ≡ call_ending (in_words K.Key.kind) (M.Memory.meaning self.old.memory) self.old.state self.old.taken (Put (K.Key.kind.form key.now) reading) }
         ensures sound { Sound (in_words K.Key.kind) (M.Memory.meaning self.old.memory).live self.old.state → Sound (in_words K.Key.kind) (M.Memory.meaning self.new.memory).live self.new.state }
+        ensures any { Answered (M.Memory.meaning self.old.memory) self.old.state self.old.taken (ending result (M.Memory.meaning self.new.memory) (shape_of self.new.state) self.new.taken) }
     {
         let key = key.pack();
         Ok(self.turn(Deed::Put { key, reading })?.steps)
@@ -128,6 +133,7 @@ impl<K: Key, M: Memory> Logbook<K, M> {
     pub fn change(&mut self, key: &K, reading: u64) -> Result<usize, Halt>
         ensures ending { Sound (in_words K.Key.kind) (M.Memory.meaning self.old.memory).live self.old.state → ending result (M.Memory.meaning self.new.memory) (shape_of self.new.state) self.new.taken ≡ call_ending (in_words K.Key.kind) (M.Memory.meaning self.old.memory) self.old.state self.old.taken (Change (K.Key.kind.form key.now) reading) }
         ensures sound { Sound (in_words K.Key.kind) (M.Memory.meaning self.old.memory).live self.old.state → Sound (in_words K.Key.kind) (M.Memory.meaning self.new.memory).live self.new.state }
+        ensures any { Answered (M.Memory.meaning self.old.memory) self.old.state self.old.taken (ending result (M.Memory.meaning self.new.memory) (shape_of self.new.state) self.new.taken) }
     {
         let key = key.pack();
         Ok(self.turn(Deed::Change { key, reading })?.steps)
@@ -137,6 +143,7 @@ impl<K: Key, M: Memory> Logbook<K, M> {
     pub fn remove(&mut self, key: &K) -> Result<Removed, Halt>
         ensures ending { Sound (in_words K.Key.kind) (M.Memory.meaning self.old.memory).live self.old.state → RemovalEnds (M.Memory.meaning self.new.memory) (shape_of self.new.state) self.new.taken result (lookup (K.Key.kind.form key.now) (book (in_words K.Key.kind) (M.Memory.meaning self.old.memory).live)) (call_ending (in_words K.Key.kind) (M.Memory.meaning self.old.memory) self.old.state self.old.taken (Remove (K.Key.kind.form key.now))) }
         ensures sound { Sound (in_words K.Key.kind) (M.Memory.meaning self.old.memory).live self.old.state → Sound (in_words K.Key.kind) (M.Memory.meaning self.new.memory).live self.new.state }
+        ensures any { Answered (M.Memory.meaning self.old.memory) self.old.state self.old.taken (ending (steps_told result) (M.Memory.meaning self.new.memory) (shape_of self.new.state) self.new.taken) }
     {
         let key = key.pack();
         let done = self.turn(Deed::Remove { key })?;

@@ -18,7 +18,7 @@ returns-in-Put g c s same sound =
     let d = deed.Put (g.K.Key.kind.form c.in-Put.key) c.in-Put.reading in
     let told = deed_told o laws _ _ _ s d _ _ _ _ same sound (c.put.ensures.ending sound) in
     record {
-      event = Some (called d (outcome by_rule o s d).answer (outcome by_rule o s d).ending);
+      event = Some (called d (outcome by_rule o s.state d).answer (outcome by_rule o s.state d).ending);
       rightly = (valid_of_keys g.K.Key.kind g.met.K.Key.formed c.in-Put.key, refl, refl);
       happened = rw c.in-Put.is (refl, c.steps.ensures ∙ sym told.steps_heard);
       same = told.same;
@@ -32,7 +32,7 @@ returns-in-Change g c s same sound =
     let d = deed.Change (g.K.Key.kind.form c.in-Change.key) c.in-Change.reading in
     let told = deed_told o laws _ _ _ s d _ _ _ _ same sound (c.change.ensures.ending sound) in
     record {
-      event = Some (called d (outcome by_rule o s d).answer (outcome by_rule o s d).ending);
+      event = Some (called d (outcome by_rule o s.state d).answer (outcome by_rule o s.state d).ending);
       rightly = (valid_of_keys g.K.Key.kind g.met.K.Key.formed c.in-Change.key, refl, refl);
       happened = rw c.in-Change.is (refl, c.steps-in-Change.ensures ∙ sym told.steps_heard);
       same = told.same;
@@ -49,7 +49,7 @@ returns-in-Remove g c s same sound =
     let ends = c.remove.ensures.ending sound in
     let told = deed_told o laws m _ _ s d e.answer _ _ _ same sound (ends_so _ _ _ _ _ e ends) in
     record {
-      event = Some (called d (outcome by_rule o s d).answer (outcome by_rule o s d).ending);
+      event = Some (called d (outcome by_rule o s.state d).answer (outcome by_rule o s.state d).ending);
       rightly = (valid_of_keys g.K.Key.kind g.met.K.Key.formed c.in-Remove.key, refl, refl);
       happened = rw c.in-Remove.is (refl, c.removed.ensures ∙ ap heard_removed ends.told ∙ sym told.removed_heard);
       same = told.same;
@@ -62,7 +62,7 @@ returns-in-Find g c s same sound =
     let m = g.M.Memory.meaning c.args.logbook.now.memory in
     let q = find (g.K.Key.kind.form c.in-Find.key) in
     record {
-      event = Some (asked q (reply o s q));
+      event = Some (asked q (reply o s.state q));
       rightly = refl;
       happened = rw c.in-Find.is (refl, c.found.ensures ∙ ap heard_found (c.find.ensures.answer sound) ∙ find_told o m c.args.logbook.now.state c.args.logbook.now.taken s same (g.K.Key.kind.form c.in-Find.key));
       same = record { memory = same.memory ∙ sym c.find.ensures.same; logbook = rw (c.find.ensures.state, c.find.ensures.taken) same.logbook };
@@ -75,7 +75,7 @@ returns-in-Next g c s same sound =
     let m = g.M.Memory.meaning c.args.logbook.now.memory in
     let q = next_after (g.K.Key.kind.form c.in-Next.key) in
     record {
-      event = Some (asked q (reply o s q));
+      event = Some (asked q (reply o s.state q));
       rightly = refl;
       happened = rw c.in-Next.is (refl, c.next-in-Next.ensures ∙ ap heard_next (c.next.ensures.answer sound) ∙ next_told o m c.args.logbook.now.state c.args.logbook.now.taken s same (g.K.Key.kind.form c.in-Next.key));
       same = record { memory = same.memory ∙ sym c.next.ensures.same; logbook = rw (c.next.ensures.state, c.next.ensures.taken) same.logbook };
@@ -88,7 +88,7 @@ returns-in-Pairs g c s same sound =
     let m = g.M.Memory.meaning c.args.logbook.now.memory in
     let q = how_many in
     record {
-      event = Some (asked q (reply o s q));
+      event = Some (asked q (reply o s.state q));
       rightly = refl;
       happened = rw c.in-Pairs.is (refl, c.number.ensures ∙ ap heard_number (c.pairs.ensures.answer sound) ∙ pairs_told o m c.args.logbook.now.state c.args.logbook.now.taken s same);
       same = record { memory = same.memory ∙ sym c.pairs.ensures.same; logbook = rw (c.pairs.ensures.state, c.pairs.ensures.taken) same.logbook };
@@ -99,7 +99,7 @@ pub returns-in-Node : goal.returns-in-Node
 returns-in-Node g c s same sound = record {
   event = None;
   rightly = tt;
-  happened = rw c.in-Node.is (node_told_in c.args.logbook.now.state c.args.logbook.now.taken s.logbook c.in-Node.number c.node.result same.logbook c.node.ensures);
+  happened = rw c.in-Node.is (node_told_in c.args.logbook.now.state c.args.logbook.now.taken s.state.logbook s.groups c.in-Node.number c.node.result same.logbook c.node.ensures);
   same = same;
   sound = sound;
 }

@@ -1,11 +1,11 @@
-use Rattle.std.proofs.Common.{◌<◌, [], length, sym, ap, ◌∙◌, arith}
+use Rattle.std.proofs.Common.{◌+◌, ◌<◌, ◌≤◌, [], length, sym, ap, ◌∙◌, arith}
 use Rattle.std.proofs.lemmas.Bool.Decides.{nat_tests}
 use Rattle.std.proofs.lemmas.List.{nil_from_length}
 use Rattle.fixed_vec.specs.Items.{items}
 use Rattle.keys.specs.InWords.{in_words}
 use Rattle.keys.proofs.WordLaws.{in_words_ordered}
 use Rattle.leaves.specs.Layout.{count_of}
-use Rattle.leaves.proofs.ElementLaws.{length_elements, pairs_folded}
+use Rattle.leaves.proofs.ElementLaws.{pairs_folded}
 use Rattle.plans.specs.Deeds.{done, key_of}
 use Rattle.leaves.specs.Pairs.{folded}
 use Rattle.tree.specs.Halting.{ended, state_after}
@@ -17,6 +17,9 @@ use Rattle.tree.proofs.CarryLaws.{appended, nothing_done, rewritten_is}
 use Rattle.tree.proofs.TurnLaws.{elements_here, leaf_within, same_elements}
 use Rattle.tree.proofs.LocatedLaws.{never_ok}
 use Rattle.std.proofs.Common.{Ok, Err}
+use Rattle.std.proofs.lemmas.Result.{err_from_is_err_and}
+use Rattle.tree.proofs.AnywhereLaws.{append_answered, declines, read_own, stays}
+use Rattle.tree.specs.declared.logbook.State.TheVariants.{Open}
 use Rattle.tree.proofs.logbook.Logbook.carry.Goals as goal
 
 pub returns-then-is_empty : goal.returns-then-is_empty
@@ -25,7 +28,7 @@ returns-then-is_empty g c =
     let laws = in_words_ordered g.K.Key.kind g.met.K.Key.ordered g.met.K.Key.formed in
     let m = g.M.Memory.meaning c.args.self.now.memory in
     let none = nil_from_length c.args.list.now (grind (arith, nat_tests)) in
-    record { done = λ x open_is work read is. nothing_done o laws m x c.args.self.now.taken c.args.deed c.args.home work c.args.list.now is c.args.self.now.state none open_is }
+    record { done = λ x open_is work read is. nothing_done o laws m x c.args.self.now.taken c.args.deed c.args.home work c.args.list.now is c.args.self.now.state none open_is; any = λ x open_is within. rw open_is (stays m x c.args.self.now.taken) }
 
 pub returns-then-saturating_add-le16 : goal.returns-then-saturating_add-le16
 returns-then-saturating_add-le16 g c =
@@ -41,6 +44,12 @@ returns-then-saturating_add-le16 g c =
           ap (ending c.append.result (g.M.Memory.meaning c.append.new.self.memory) (shape_of c.append.new.self.state)) c.append.ensures.taken
           ∙ appended o laws m x taken c.args.deed c.args.home work c.args.list.now is some c.args.count read (grind (arith, nat_tests)) c.append.result (g.M.Memory.meaning c.append.new.self.memory) c.append.new.self.state
           (ran ∙ ap (λ w. perform m (append_lines c.args.home.leaf c.args.count w c.args.list.now)) c.key.ensures) (c.append.ensures.state ∙ ap (λ s. state_after s (ended c.append.result)) open_is);
+      any = λ x open_is within.
+          let room : c.args.count + length c.args.list.now ≤ 16 = grind (arith, nat_tests) in
+          let ran = c.append.ensures.done within.0 within.1 room in
+          rw (open_is, c.append.ensures.taken)
+          (append_answered m x taken c.args.home.leaf c.args.count _ c.args.list.now c.append.result (g.M.Memory.meaning c.append.new.self.memory) c.append.new.self.state within room c.append.ensures.few ran
+          (c.append.ensures.state ∙ ap (λ s. state_after s (ended c.append.result)) open_is));
     }
 
 pub returns : goal.returns
@@ -56,6 +65,7 @@ returns g c =
           let pairs = c.pairs_after.ensures.value ∙ ap (done o c.args.deed) (ap (folded o []) got ∙ sym (pairs_folded o m.live c.args.home.leaf (count_of m.live c.args.home.leaf))) in
           (rw (c.call.ensures, c.elements_in.ensures.same) at c.rewrite.ensures.done) x (key_of c.args.deed) open_is work (λ e. c.pairs_after.ensures.fits e)
           ∙ rewritten_is o laws m x taken c.args.deed c.args.home work c.args.list.now is some (grind (arith, nat_tests)) (items c.pairs_after.result) pairs;
+      any = λ x open_is within. (rw (c.call.ensures, c.elements_in.ensures.same) at c.rewrite.ensures.any) x open_is (λ e. c.pairs_after.ensures.fits e);
     }
 
 pub returns-in_err-elements : goal.returns-in_err-elements
@@ -66,4 +76,7 @@ returns-in_err-elements g c =
     record {
       done = λ x open_is work read is.
           never_ok c.in_err-elements.field-0.0 (sym (elements_here o laws m.live x (key_of c.args.deed) c.args.home work (Err c.in_err-elements.field-0.0) c.in_err-elements.ensures.value));
+      any = λ x open_is within.
+          let p = err_from_is_err_and c.from_residual.result c.from_residual.ensures.1 in
+          rw (p.1, p.2, c.elements_in.ensures.same, open_is) (declines m (Open x) c.args.self.now.taken c.in_err-elements.field-0.0 (read_own m.live c.args.home.leaf c.in_err-elements.field-0.0 c.in_err-elements.ensures.value));
     }
