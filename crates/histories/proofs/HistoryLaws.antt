@@ -12,6 +12,7 @@ use Rattle.writes.specs.Laws.{Cut, change, New}
 use Rattle.writes.proofs.Runs.{fall_none}
 use Rattle.books.specs.Footprint.{book}
 use Rattle.books.proofs.BoundLaws.{opening_bounds_hold}
+use Rattle.books.proofs.OpensLaws.{opens_from}
 use Rattle.turns.specs.Turns.{HoldsBook, Turned, stands_new, settled_on}
 use Rattle.turns.proofs.TurnLaws.{turns_hold}
 use Rattle.plans.specs.declared.deed.Deed.{Deed}
@@ -24,8 +25,7 @@ use Rattle.histories.specs.Histories.{Event, called, asked, cut, Happens, after,
 use Rattle.histories.specs.Law.{EventLaw, fed, HistoryLaw, LawfulFrom}
 use Rattle.histories.proofs.PlainLaws.{tells_same}
 use Rattle.histories.proofs.CommitLaws.{plan_placed}
-use Rattle.histories.proofs.RoomLaws.{full_leaf}
-use Rattle.histories.proofs.CallLaws.{Broken, Kept, kept_stands, CallStep, unpowered_removes, call_step}
+use Rattle.histories.proofs.CallLaws.{Broken, Kept, kept_stands, CallStep, none_there, unpowered_removes, call_step}
 
 abbrev fed_with : List Pair → Option Waiting → PlainBook
 fed_with ps w = record { pairs = ps; waiting = w }
@@ -43,7 +43,7 @@ quiet m settled words (keeps, is) = is ∙ (ap (picked keeps m.live) (sym settle
 module _ (choose : Choice) (lawful : Lawful choose) (o : WordKind) (ordered : WordOrdered o) where
   -- The law at an event, and what stands after it.
   abbrev Step : State → Event → PlainBook → Type 0
-  Step s e b = EventLaw o b s (after choose o s e) e × Kept o (after choose o s e).memory (after choose o s e).logbook (fed o e b).pairs (fed o e b).waiting
+  Step s e b = EventLaw choose o b s (after choose o s e) e × Kept o (after choose o s e).memory (after choose o s e).logbook (fed o e b).pairs (fed o e b).waiting
 
   -- A cut while a call waits.
   broken_step : (m : Words) (ps : List Pair) (w : Waiting) (words : List ℕ) (power : Power) → Broken o m ps w → Cut m words → Step (record { memory = m; logbook = dark }) (cut words power) (fed_with ps (Some w))
@@ -76,13 +76,14 @@ module _ (choose : Choice) (lawful : Lawful choose) (o : WordKind) (ordered : Wo
       (cases_Bool (stands_new c words))
 
   -- A call while one waits.
-  dark_step : (m : Words) (ps : List Pair) (w : Waiting) (d : Deed) → Broken o m ps w → CallStep o (fed_with ps (Some w)) (record { memory = m; logbook = dark }) d (outcome choose o (record { memory = m; logbook = dark }) d)
+  dark_step : (m : Words) (ps : List Pair) (w : Waiting) (d : Deed) → Broken o m ps w → CallStep choose o (fed_with ps (Some w)) (record { memory = m; logbook = dark }) d (outcome choose o (record { memory = m; logbook = dark }) d)
   dark_step m ps w d b = (
     record {
       while_open = λ none. absurd (none-some w (sym none));
       while_dark = λ x is. (refl, refl);
       remove = unpowered_removes d _ 0;
       ends = (NoPower, refl, λ none. absurd (none-some w (sym none)));
+      there = none_there m.power;
       spent = sym (fall_none m.power);
       few = omega arith;
     },
@@ -95,7 +96,7 @@ module _ (choose : Choice) (lawful : Lawful choose) (o : WordKind) (ordered : Wo
   step m dark ps None e kept h = absurd kept
   step m (in_use t) ps None (called d a e) (settled, sound, is) (valid, answered, ended) =
       subst (λ qs. Step (record { memory = m; logbook = in_use t }) (called d a e) (fed_with qs None)) is
-      (rw (answered, ended) (call_step o ordered m t settled sound d (plan_by choose o m.live t d) (plans_hold choose lawful o ordered m.live t d sound valid) (λ is goes. full_leaf choose o ordered m.live t sound d goes is) (plan_placed choose o m.live t d)))
+      (rw (answered, ended) (call_step choose o ordered m t settled sound d (plan_by choose o m.live t d) (plans_hold choose lawful o ordered m.live t d sound valid) (plan_placed choose o m.live t (opens_from o m.live t.leaves sound.opens).spare d)))
   step m (in_use t) ps None (asked q r) (settled, sound, is) h = (
     record { while_open = λ _. h ∙ (ap (replies o q) is ∙ sym (tells_same o q ps)); while_dark = λ w none. absurd (none-some w none) },
     (settled, sound, is),

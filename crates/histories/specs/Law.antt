@@ -10,10 +10,11 @@ use Rattle.books.specs.Format.{Roomy, formatted}
 use Rattle.turns.specs.Turns.{stands_new}
 use Rattle.plans.specs.Told.{Choice, Lawful, by_rule}
 use Rattle.plans.specs.Plan.{Tree}
+use Rattle.plans.specs.Room.{ExactlyWhen}
 use Rattle.plans.specs.Laws.{Sound}
 use Rattle.histories.specs.PlainBook.{done, Waiting, PlainBook, plain, after_call, after_cut}
 use Rattle.histories.specs.Outcome.{State, Logbook, in_use, dark}
-use Rattle.histories.specs.Answering.{ExactlyWhen, CallLaw, QuestionLaw}
+use Rattle.histories.specs.Answering.{CallLaw, QuestionLaw}
 use Rattle.histories.specs.Histories.{Event, called, asked, cut, after, History, Act, Keyed, played}
 
 -- A call waits, and its commit word stands new.
@@ -30,10 +31,10 @@ pub record CutLaw (o : WordKind) (b : PlainBook) (words : List ℕ) : Type 0 whe
   -- (c) opening is not refused.
   pub opens : (ks : List ℕ) × (open_answer o words ≡ Ok ks)
 
-abbrev pub EventLaw : WordKind → PlainBook → State → State → Event → Type 0
-EventLaw o b before later (called d a e) = CallLaw o b before later d a e
-EventLaw o b before later (asked q r) = QuestionLaw o b q r
-EventLaw o b before later (cut words power) = CutLaw o b words
+abbrev pub EventLaw : Choice → WordKind → PlainBook → State → State → Event → Type 0
+EventLaw choose o b before later (called d a e) = CallLaw choose o b before later d a e
+EventLaw choose o b before later (asked q r) = QuestionLaw o b q r
+EventLaw choose o b before later (cut words power) = CutLaw o b words
 
 -- While no call waits the logbook is open, its memory is settled, and their book is the plain book. While one waits the logbook is dark.
 abbrev pub Stands : WordKind → Words → Logbook → List Pair → Option Waiting → Type 0
@@ -59,7 +60,7 @@ fed_all o (e ∷ es) b = fed_all o es (fed o e b)
 -- THE LAW, at each event, with the plain book fed all events before it.
 abbrev pub HistoryLaw : Choice → WordKind → State → PlainBook → List Event → Type 0
 HistoryLaw choose o s b [] = Stands o s.memory s.logbook b.pairs b.waiting
-HistoryLaw choose o s b (e ∷ es) = Stands o s.memory s.logbook b.pairs b.waiting × EventLaw o b s (after choose o s e) e × HistoryLaw choose o (after choose o s e) (fed o e b) es
+HistoryLaw choose o s b (e ∷ es) = Stands o s.memory s.logbook b.pairs b.waiting × EventLaw choose o b s (after choose o s e) e × HistoryLaw choose o (after choose o s e) (fed o e b) es
 
 -- THE THEOREM, from any open logbook that is sound on a settled memory.
 abbrev pub LawfulFrom : Type 0
