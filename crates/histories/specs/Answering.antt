@@ -15,8 +15,8 @@ use Rattle.plans.specs.Deeds.{key_of, call_of, elements_of, Declines, BringsHeld
 use Rattle.plans.specs.Told.{Choice}
 use Rattle.plans.specs.Plan.{Tree, Site, site}
 use Rattle.plans.specs.Room.{ExactlyWhen, fits, LacksRoom, steps_enough}
-use Rattle.histories.specs.PlainBook.{reading_of, Question, Reply, refused, tells, Ending, finished, unfinished, neither, Waiting, PlainBook}
-use Rattle.histories.specs.Outcome.{State, Logbook, in_use, Answer}
+use Rattle.histories.specs.PlainBook.{reading_of, Question, Reply, refused, tells, Ending, finished, unfinished, neither, PlainBook}
+use Rattle.histories.specs.Outcome.{State, Logbook, in_use, Answer, commit_word}
 
 -- (c) A remove of a key that the finished calls leave in the book tells its reading, or is refused for lack of power.
 abbrev pub RemoveLaw : Deed → Option ℕ → Answer → Type 0
@@ -45,8 +45,10 @@ pub record OpenCall (choose : Choice) (o : WordKind) (held : Option ℕ) (before
   pub power : a.result ≡ Err NoPower → (before.memory.power ≡ left a.steps) × (a.steps < steps_for o d before.memory before.logbook)
   -- a refusal other than for power leaves everything, and takes no step;
   pub leaves : (e : Refusal) → a.result ≡ Err e → e ≢ NoPower → (later ≡ before) × (a.steps ≡ 0)
-  -- so does a change to the reading held, which is granted.
+  -- so does a change to the reading held, which is granted;
   pub nothing : BringsHeld d held → (a ≡ record { result = Ok held; steps = 0 }) × (later ≡ before)
+  -- and no more steps are taken than suffice.
+  pub few : a.steps ≤ steps_for o d before.memory before.logbook
   -- So a call that has something to do is granted where there is room, and steps enough are left.
   pub goes : Goes d held → (NoRoomFor choose o d before.memory before.logbook → ⊥) → Enough before.memory.power (steps_for o d before.memory before.logbook) → a.result ≡ Ok held
 
@@ -62,22 +64,28 @@ pub record Commits (o : WordKind) (m : List ℕ) (t : Tree) (d : Deed) (s : Site
   pub rewrite : fits o m t d ≡ false → (commit.at ≡ link_at 2 s.before) × Unlinked m t commit.word
   pub differs : New commit m → ⊥
 
+-- So of a call of an open logbook.
 abbrev pub CommitsIn : WordKind → Deed → Store → Words → Logbook → Type 0
 CommitsIn o d commit m (in_use t) = Commits o m.live t d (site o t (key_of d)) commit
 CommitsIn o d commit m _ = ⊥
 
--- A call is finished when it is granted, and unfinished when an open logbook refuses it for power. Else it is neither.
-abbrev pub EndingLaw : WordKind → PlainBook → State → Deed → Answer → Ending → Type 0
-EndingLaw o b before d a finished = (had : Option ℕ) × (a.result ≡ Ok had)
-EndingLaw o b before d a (unfinished commit) = (b.waiting ≡ None) × (a.result ≡ Err NoPower) × CommitsIn o d commit before.memory before.logbook
-EndingLaw o b before d a neither = (e : Refusal) × (a.result ≡ Err e) × (b.waiting ≡ None → e ≢ NoPower)
+-- An unfinished call has its commit word.
+abbrev pub HasCommit : Choice → WordKind → State → Deed → Type 0
+HasCommit choose o s d = (commit : Store) × (commit_word choose o s d ≡ Some commit) × CommitsIn o d commit s.memory s.logbook
 
+-- A call is finished when it is granted, and unfinished when an open logbook refuses it for power. Else it is neither.
+abbrev pub EndingLaw : Choice → WordKind → PlainBook → State → Deed → Answer → Ending → Type 0
+EndingLaw choose o b before d a finished = (had : Option ℕ) × (a.result ≡ Ok had)
+EndingLaw choose o b before d a unfinished = (b.waiting ≡ None) × (a.result ≡ Err NoPower) × HasCommit choose o before d
+EndingLaw choose o b before d a neither = (e : Refusal) × (a.result ≡ Err e) × (b.waiting ≡ None → e ≢ NoPower)
+
+-- A call in the state that a history has come to, and the state after it, by the plain book:
 pub record CallLaw (choose : Choice) (o : WordKind) (b : PlainBook) (before later : State) (d : Deed) (a : Answer) (e : Ending) : Type 0 where
   pub while_open : b.waiting ≡ None → OpenCall choose o (reading_of (key_of d) b.pairs) before later d a
   -- While a call waits the logbook is dark: refused for power, without a step.
-  pub while_dark : (w : Waiting) → b.waiting ≡ Some w → (a ≡ record { result = Err NoPower; steps = 0 }) × (later ≡ before)
+  pub while_dark : (w : Deed) → b.waiting ≡ Some w → (a ≡ record { result = Err NoPower; steps = 0 }) × (later ≡ before)
   pub remove : RemoveLaw d (reading_of (key_of d) b.pairs) a
-  pub ends : EndingLaw o b before d a e
+  pub ends : EndingLaw choose o b before d a e
   -- The steps told are those that the memory granted, which were there, never more than 87.
   pub there : Enough before.memory.power a.steps
   pub spent : later.memory.power ≡ fall before.memory.power a.steps
@@ -86,4 +94,4 @@ pub record CallLaw (choose : Choice) (o : WordKind) (b : PlainBook) (before late
 -- Find, next and pairs tell exactly the plain book; while a call waits they are refused for power.
 pub record QuestionLaw (o : WordKind) (b : PlainBook) (q : Question) (r : Reply) : Type 0 where
   pub while_open : b.waiting ≡ None → r ≡ tells o q b.pairs
-  pub while_dark : (w : Waiting) → b.waiting ≡ Some w → r ≡ refused NoPower
+  pub while_dark : (w : Deed) → b.waiting ≡ Some w → r ≡ refused NoPower

@@ -39,7 +39,7 @@ use Rattle.index.specs.Search.{concat, front}
 use Rattle.tree.specs.declared.logbook.carry.Halt.{Halt}
 use Rattle.tree.specs.declared.logbook.State.{State}
 use Rattle.tree.specs.declared.logbook.State.TheVariants.{Blank, Open, Dark}
-use Rattle.tree.specs.Calls.{CallDone, Crowded, DoneAfter, FewSteps, FromMemory, GrantedOrMemory, OfCalls, OneFree, Refused, Refuses, RemoveGoes, RoomTold, Settles, SoundAfter, StaysSettled, StaysSound, StepsTold, Why}
+use Rattle.tree.specs.Calls.{CallDone, DoneAfter, FewSteps, FromMemory, GrantedOrMemory, OfCalls, OneFree, Refused, Refuses, RemoveGoes, RoomTold, Settles, SoundAfter, StaysSettled, StaysSound, StepsTold, Why}
 use Rattle.tree.specs.Halting.{halted}
 use Rattle.tree.specs.Shape.{Shape, dark, groups, shape_of}
 use Rattle.tree.specs.Sound.{Fits, Sound}
@@ -79,7 +79,7 @@ module _ (o : WordKind) (ordered : WordOrdered o) (m : Words) (x : Index) (last 
       (granted : (before : List LineWrite) (commit : Store) (after : Tree) → Written o m x last d before commit after → (perform m (change before commit)).ended ≡ Ok tt → P (ending (Ok (perform m (change before commit)).steps) (perform m (change before commit)).after (groups (regrouped (grouped x) n after)) after.last))
       (broken : (before : List LineWrite) (commit : Store) (after : Tree) → Written o m x last d before commit after → (e : Refusal) → (perform m (change before commit)).ended ≡ Err e → P (ending (Err (halted e (perform m (change before commit)).steps)) (perform m (change before commit)).after dark last)) where
     plan_ends : (p : Plan) → Holds by_rule o m.live t d p → Regroups (grouped x) n p → P (by_plan n m x last p)
-    plan_ends (refuse e) h r = refused e (⊎_elim (λ own. inl own) (λ full. inr (full.0, (full.1, full.2))) h)
+    plan_ends (refuse e) h r = refused e (⊎_elim (λ own. inl own) (λ full. inr (full.0, full.1, full.2)) h)
     plan_ends nothing h r = kept h
     plan_ends (writes before commit after) h r =
         let w : Written o m x last d before commit after = record { goes = h.0; roomy = h.1; fulfils = h.2; lists = r } in
@@ -173,16 +173,16 @@ memory_no_room e from is = ⊎_elim (λ dry. room_no_power (sym is ∙ dry)) (λ
 pub room_told_holds : RoomTold
 room_told_holds o ordered m x last d sound valid =
     let held = lookup (key_of d) (book o m.live) in
-    call_ends o ordered m x last d sound valid (λ e. ExactlyWhen (e.answer ≡ Err (halted NoRoom 0)) (Crowded o m.live x last d))
+    call_ends o ordered m x last d sound valid (λ e. ExactlyWhen (e.answer ≡ Err (halted NoRoom 0)) (Goes d held × LacksRoom by_rule o m.live (tree_of x last) d))
     (λ e why. (
-      λ q. ⊎_elim (λ own. absurd (declined_no_room d held (subst (Declines d held) (room_refusal e 0 q) own))) (λ full. full.1) why,
-      λ crowded. ⊎_elim (λ own. absurd (goes_not_declined d held e crowded.0 own)) (λ full. ap (λ f. Err (halted f 0)) full.0) why,
+      λ q. ⊎_elim (λ own. absurd (declined_no_room d held (subst (Declines d held) (room_refusal e 0 q) own))) (λ full. (full.1, full.2)) why,
+      λ (goes, lacks). ⊎_elim (λ own. absurd (goes_not_declined d held e goes own)) (λ full. ap (λ f. Err (halted f 0)) full.0) why,
     ))
-    (λ same. (λ q. err_ok q refl, λ crowded. absurd (goes_not_held d held crowded.0 same)))
-    (λ before commit after w ended. (λ q. err_ok q refl, λ crowded. absurd (w.roomy crowded.1)))
+    (λ same. (λ q. err_ok q refl, λ (goes, lacks). absurd (goes_not_held d held goes same)))
+    (λ before commit after w ended. (λ q. err_ok q refl, λ (goes, lacks). absurd (w.roomy lacks)))
     (λ before commit after w e ended. (
       λ q. absurd (memory_no_room e (performed_refusal m (change before commit) e w.fulfils.turns.proper ended) (room_refusal e _ q)),
-      λ crowded. absurd (w.roomy crowded.1),
+      λ (goes, lacks). absurd (w.roomy lacks),
     ))
 
 enough_less : (p : Power) (j k : ℕ) → j ≤ k → Enough p k → Enough p j
@@ -243,7 +243,7 @@ few_steps_hold o ordered m Dark last d sound valid = no_steps m
 pub remove_goes_holds : RemoveGoes
 remove_goes_holds o ordered m x last w r sound valid held =
     call_ends o ordered m x last (Remove w) sound valid GrantedOrMemory
-    (λ e why. ⊎_elim (λ own. absurd (none-some r (sym own.1 ∙ held))) (λ full. absurd (false≢true ((rule_splits_holds o m.live (tree_of x last) (Remove w)).0 full.1.1.splits).0)) why)
+    (λ e why. ⊎_elim (λ own. absurd (none-some r (sym own.1 ∙ held))) (λ full. absurd (false≢true ((rule_splits_holds o m.live (tree_of x last) (Remove w)).0 full.2.splits).0)) why)
     (λ same. absurd same)
     (λ before commit after writ ended. inl (_, refl))
     (λ before commit after writ e ended. inr (_, refl, performed_refusal m (change before commit) e writ.fulfils.turns.proper ended))

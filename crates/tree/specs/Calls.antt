@@ -48,14 +48,12 @@ CallDone = OfCalls (λ o m s last d e. DoneAfter o m d e)
 abbrev pub FromMemory : Refusal → Type 0
 FromMemory e = (e ≡ NoPower) ⊎ (e ≡ Unsettled)
 
--- A call of an open logbook has something to do, and no room.
-abbrev pub Crowded : WordKind → List ℕ → Index → Option ℕ → Deed → Type 0
-Crowded o m x last d = Goes d (lookup (key_of d) (book o m)) × LacksRoom by_rule o m (tree_of x last) d
-
--- Why else a call refuses: the logbook is blank; by what is held of the key; or for room.
+-- Why else a call refuses: the logbook is blank; by what is held of the key; or it has something to do, and no room.
 abbrev pub Why : WordKind → List ℕ → State → Option ℕ → Deed → Refusal → Type 0
 Why o m Blank last d e = e ≡ NotOpened
-Why o m (Open x) last d e = Declines d (lookup (key_of d) (book o m)) e ⊎ ((e ≡ NoRoom) × Crowded o m x last d)
+Why o m (Open x) last d e =
+    Declines d (lookup (key_of d) (book o m)) e
+    ⊎ ((e ≡ NoRoom) × Goes d (lookup (key_of d) (book o m)) × LacksRoom by_rule o m (tree_of x last) d)
 Why o m Dark last d e = ⊥
 
 -- Refused before the first step: everything is as it was.
@@ -75,7 +73,7 @@ abbrev pub RoomTold : Type 0
 RoomTold =
     (o : WordKind) → WordOrdered o → (m : Words) (x : Index) (last : Option ℕ) (d : Deed) →
     Sound o m.live (Open x) → o.valid (key_of d) ≡ true →
-    ExactlyWhen ((call_ending o m (Open x) last d).answer ≡ Err (halted NoRoom 0)) (Crowded o m.live x last d)
+    ExactlyWhen ((call_ending o m (Open x) last d).answer ≡ Err (halted NoRoom 0)) (Goes d (lookup (key_of d) (book o m.live)) × LacksRoom by_rule o m.live (tree_of x last) d)
 
 -- So many steps suffice for a call: none where the logbook is not open.
 abbrev pub steps_for : WordKind → List ℕ → State → Option ℕ → Deed → ℕ

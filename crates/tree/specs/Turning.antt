@@ -1,5 +1,5 @@
 -- What a put, change or remove answers and leaves, from its plan.
-use Rattle.std.specs.Prelude.{◌≡◌, ℕ, ◌+◌, ◌-◌, ◌≤◌, cond, List, [], ◌∷◌, length, None, Some, Ok, Err, Option, Result, ◌==◌, slice_index, slice_index_or}
+use Rattle.std.specs.Prelude.{◌≡◌, ℕ, ◌+◌, ◌≤◌, cond, List, [], ◌∷◌, length, None, Some, Ok, Err, Option, Result, ◌==◌, slice_index, slice_index_or}
 use Rattle.std.specs.Option.{unwrap_or}
 use Rattle.fixed_vec.specs.declared.FixedVec.{FixedVec}
 use Rattle.fixed_vec.specs.Items.{items}

@@ -5,7 +5,7 @@ use Rattle.fixed_vec.specs.Items.{items}
 use Rattle.keys.specs.InWords.{in_words}
 use Rattle.keys.proofs.WordLaws.{in_words_ordered}
 use Rattle.leaves.specs.Layout.{count_of}
-use Rattle.leaves.proofs.ElementLaws.{length_elements, pairs_folded}
+use Rattle.leaves.proofs.ElementLaws.{pairs_folded}
 use Rattle.plans.specs.Deeds.{done, key_of}
 use Rattle.leaves.specs.Pairs.{folded}
 use Rattle.tree.specs.Halting.{ended, state_after}
