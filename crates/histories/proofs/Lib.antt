@@ -1,7 +1,5 @@
-pub mod DeedLaws
 pub mod PlainLaws
 pub mod RunLaws
-pub mod RoomLaws
 pub mod CommitLaws
 pub mod CallLaws
 pub mod HistoryLaws

@@ -4,16 +4,15 @@ use Rattle.writes.specs.Writes.{perform, run}
 use Rattle.books.proofs.FormatLaws.{formats_hold}
 use Rattle.plans.specs.Told.{by_rule}
 use Rattle.plans.proofs.DecisionLaws.{decision_lawful}
-use Rattle.histories.specs.PlainBook.{plain}
 use Rattle.histories.specs.Histories.{call, ask, cut_power, event, after, played, EveryList}
-use Rattle.histories.specs.Law.{HistoryLaw, LawOfCuts, LawByRule, LawOfLists, after_format}
+use Rattle.histories.specs.Law.{HistoryLaw, LawOfCuts, LawByRule, LawOfLists, account_of, after_format}
 use Rattle.histories.specs.Example.{Example}
 use Rattle.histories.proofs.HistoryLaws.{lawful_from_holds}
 
 pub law_of_cuts_holds : LawOfCuts
 law_of_cuts_holds choose lawful o ordered m leaves f es h =
     let made = formats_hold o ordered m leaves f.roomy f.granted in
-    subst (λ ps. HistoryLaw choose o (after_format o m leaves) (plain ps) es) made.empty.none
+    subst (λ ps. HistoryLaw choose o (after_format o m leaves) (account_of ps) es) made.empty.none
     (lawful_from_holds choose lawful o ordered (after_format o m leaves).memory (record { leaves = 1 ∷ []; bounds = []; last = None }) (made.settled f.settled) (record { opens = made.empty.opens; bounded = tt }) es h)
 
 pub law_by_rule_holds : LawByRule

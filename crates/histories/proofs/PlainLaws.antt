@@ -10,11 +10,10 @@ use Rattle.leaves.proofs.PairLaws.{equal_self}
 use Rattle.books.proofs.QuestionLaws.{not_back}
 use Rattle.plans.specs.declared.deed.Deed.{Deed}
 use Rattle.plans.specs.declared.deed.Deed.TheVariants.{Put, Change, Remove}
-use Rattle.plans.specs.Deeds.{key_of, BringsHeld, Goes}
-use Rattle.plans.specs.Deeds as deeds
+use Rattle.plans.specs.Deeds.{key_of, done, BringsHeld, Goes}
 use Rattle.plans.proofs.Lengths.{lookup_gone}
 use Rattle.plans.proofs.CallLaws.{calls_change_hold, nothing_changes_hold}
-use Rattle.histories.specs.PlainBook.{with_pair, done, reading_of, Question, find, next, pairs, reading_or, tells}
+use Rattle.histories.specs.PlainBook.{with_pair, with_call, reading_of, Question, find, next, pairs, reading_or, tells}
 use Rattle.histories.specs.Outcome.{replies}
 
 pub reading_same : (w : ℕ × ℕ) (ps : List Pair) → reading_of w ps ≡ lookup w ps
@@ -42,18 +41,18 @@ module _ (o : WordKind) (ordered : WordOrdered o) where
       (cases_Bool (equal p.key q.key)))
       (cases_Bool (o.before q.key p.key))
 
-  changed_same : (w : ℕ × ℕ) (r : ℕ) (ps : List Pair) → done o (Change w r) ps ≡ deeds.done o (Change w r) ps
+  changed_same : (w : ℕ × ℕ) (r : ℕ) (ps : List Pair) → with_call o (Change w r) ps ≡ done o (Change w r) ps
   changed_same w r ps = with_pair_same (record { key = w; reading = r }) (delete w ps) (lookup_gone o ordered w ps)
 
-  pub done_same : (d : Deed) (ps : List Pair) → Goes d (lookup (key_of d) ps) → done o d ps ≡ deeds.done o d ps
+  pub done_same : (d : Deed) (ps : List Pair) → Goes d (lookup (key_of d) ps) → with_call o d ps ≡ done o d ps
   done_same (Put w r) ps none = with_pair_same (record { key = w; reading = r }) ps none
   done_same (Change w r) ps goes = changed_same w r ps
   done_same (Remove w) ps goes = refl
 
-  pub done_other : (d : Deed) (ps : List Pair) → Goes d (lookup (key_of d) ps) → done o d ps ≡ ps → ⊥
+  pub done_other : (d : Deed) (ps : List Pair) → Goes d (lookup (key_of d) ps) → with_call o d ps ≡ ps → ⊥
   done_other d ps goes same = calls_change_hold o ordered d ps goes (sym (done_same d ps goes) ∙ same)
 
-  pub done_held : (d : Deed) (ps : List Pair) → Ascending o ps → BringsHeld d (lookup (key_of d) ps) → done o d ps ≡ ps
+  pub done_held : (d : Deed) (ps : List Pair) → Ascending o ps → BringsHeld d (lookup (key_of d) ps) → with_call o d ps ≡ ps
   done_held (Put w r) ps up brings = absurd brings
   done_held (Change w r) ps up brings = changed_same w r ps ∙ nothing_changes_hold o ordered (Change w r) ps up brings
   done_held (Remove w) ps up brings = absurd brings

@@ -1,16 +1,15 @@
--- A history goes on from the state that it has reached, and what it has reached stands for the plain book that was fed it.
+-- A history goes on from the state that it has reached, and what it has reached stands for the account that was fed it.
 use Rattle.std.proofs.Common.{◌≡◌, List, [], ◌∷◌, ◌++◌, refl, ap}
 use Rattle.keys.specs.InWords.{WordKind}
 use Rattle.plans.specs.Told.{Choice}
-use Rattle.histories.specs.PlainBook.{PlainBook}
 use Rattle.histories.specs.Outcome.{State}
 use Rattle.histories.specs.Histories.{Event, after, History, reached, Act, event, played}
-use Rattle.histories.specs.Law.{Stands, fed, fed_all, HistoryLaw}
+use Rattle.histories.specs.Law.{Account, StandsFor, fed, fed_all, HistoryLaw}
 
 module _ (choose : Choice) (o : WordKind) where
-  pub reached_stands : (s : State) (b : PlainBook) (es : List Event) → HistoryLaw choose o s b es → Stands o (reached choose o s es).memory (reached choose o s es).logbook (fed_all o es b).pairs (fed_all o es b).waiting
-  reached_stands s b [] law = law
-  reached_stands s b (e ∷ es) law = reached_stands (after choose o s e) (fed o e b) es law.2
+  pub reached_stands : (s : State) (now : Account) (es : List Event) → HistoryLaw choose o s now es → StandsFor o (reached choose o s es) (fed_all choose o s es now)
+  reached_stands s now [] law = law
+  reached_stands s now (e ∷ es) law = reached_stands (after choose o s e) (fed choose o s e now) es law.2
 
   pub reached_on : (s : State) (es fs : List Event) → reached choose o s (es ++ fs) ≡ reached choose o (reached choose o s es) fs
   reached_on s [] fs = refl

@@ -23,13 +23,14 @@ torn live = call (Put last_day.key 7) ∷ cut_power (λ i. live) endless ∷ ask
 abbrev pub played_with : ℕ → Bool → List Event
 played_with steps live = played by_rule stamps (after_format stamps (small steps) 2) (torn live)
 
--- What calls and questions are answered.
+-- What calls are answered.
 abbrev pub answers : List Event → List Answer
 answers [] = []
 answers (called d a e ∷ es) = a ∷ answers es
 answers (asked q r ∷ es) = answers es
 answers (cut words power ∷ es) = answers es
 
+-- What questions are replied.
 abbrev pub questions : List Event → List Reply
 questions [] = []
 questions (called d a e ∷ es) = questions es
@@ -40,13 +41,15 @@ questions (cut words power ∷ es) = questions es
 abbrev pub lacking : ℕ → List Answer
 lacking steps = record { result = Err NoPower; steps = steps } ∷ []
 
--- Next finds the pair, or none.
+-- Next finds the pair.
 abbrev pub there : List Reply
 there = pair last_day ∷ []
 
+-- Next finds none.
 abbrev pub gone : List Reply
 gone = refused Absent ∷ []
 
+-- The put takes seven steps.
 pub record Example : Type 0 where
   pub granted : FormatGranted stamps (small 6) 2
   pub left_over : (after_format stamps (small 6) 2).memory.power ≡ left 6

@@ -28,6 +28,7 @@ after choose o s (called d a e) = (outcome choose o s d).state
 after choose o s (asked q r) = s
 after choose o s (cut words power) = record { memory = settled_on s.memory words power; logbook = opened o words }
 
+-- Events one after the other, each as it may happen in the state after those before it.
 abbrev pub History : Choice → WordKind → State → List Event → Type 0
 History choose o s [] = Unit {0}
 History choose o s (e ∷ es) = Happens choose o s e × History choose o (after choose o s e) es

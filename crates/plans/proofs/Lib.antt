@@ -1,5 +1,7 @@
 pub mod FreeLaws
 pub mod DecisionLaws
+pub mod DeedLaws
+pub mod RoomLaws
 pub mod Lengths
 pub mod CallLaws
 pub mod SiteLaws

@@ -10,7 +10,7 @@ use Rattle.books.proofs.QuestionLaws.{finds_hold}
 use Rattle.plans.specs.Plan.{Tree, Site, site, site_at, pairs_of}
 use Rattle.plans.specs.Laws.{Sound}
 
-site_is : (pre : List ℕ) (k : ℕ) (post : List ℕ) → site_at (length pre) (pre ++ k ∷ post) ≡ record { before = pre; leaf = k; after = post }
+pub site_is : (pre : List ℕ) (k : ℕ) (post : List ℕ) → site_at (length pre) (pre ++ k ∷ post) ≡ record { before = pre; leaf = k; after = post }
 site_is [] k post = refl
 site_is (j ∷ pre) k post = ap (λ (s : Site). record { before = j ∷ s.before; leaf = s.leaf; after = s.after }) (site_is pre k post)
 

@@ -26,6 +26,12 @@ may_split call.Put = true
 may_split call.Change = true
 may_split call.Remove = false
 
+-- How many elements a call appends to the leaf of its key.
+abbrev pub elements_of : Call → ℕ
+elements_of call.Put = 1
+elements_of call.Change = 2
+elements_of call.Remove = 1
+
 -- A book with the call done: with a pair more, with another reading, with a pair less.
 abbrev pub done : WordKind → Deed → List Pair → List Pair
 done o (Put w r) ps = insert o (record { key = w; reading = r }) ps

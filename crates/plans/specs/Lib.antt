@@ -3,6 +3,7 @@ pub mod Decisions
 pub mod Free
 pub mod Told
 pub mod Plan
+pub mod Room
 pub mod Laws
 pub mod Sorts
 pub mod Example

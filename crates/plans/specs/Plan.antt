@@ -14,13 +14,14 @@ use Rattle.appends.specs.Append.{slot_lines, raised, all_applied}
 use Rattle.appends.specs.Calls.{put_elements, change_elements, remove_elements}
 use Rattle.rewrites.specs.Rewrite.{Filling, leaf_numbers, leaves_lines, link_commit}
 use Rattle.rewrites.specs.Bounds.{bounds_after}
+use Rattle.plans.specs.declared.deed.Call.{Call}
 use Rattle.plans.specs.declared.deed.Deed.{Deed}
 use Rattle.plans.specs.declared.deed.Deed.TheVariants.{Put, Change, Remove}
 use Rattle.plans.specs.declared.decision.Decision.{Decision}
 use Rattle.plans.specs.declared.decision.Decision.TheVariants.{Split, Merge, Replace}
 use Rattle.plans.specs.Deeds.{key_of, call_of}
 use Rattle.plans.specs.Free.{free_leaf}
-use Rattle.plans.specs.Told.{NextLeaf, Choice, by_rule}
+use Rattle.plans.specs.Told.{NextLeaf, Told, Choice, by_rule}
 
 -- What an open logbook keeps beside the memory: the linked leaves, the bounds between them, and the leaf taken last.
 pub record Tree : Type 0 where
@@ -119,12 +120,16 @@ abbrev pub next_leaf : WordKind → List ℕ → List ℕ → Option NextLeaf
 next_leaf o m [] = None
 next_leaf o m (k ∷ ks) = Some (record { pairs = length (pairs_of o m k); count = count_of m k })
 
+-- What a decision is told of a call at a place, whose leaf will have so many pairs.
+abbrev pub told_at : WordKind → List ℕ → Tree → Site → Call → ℕ → Told
+told_at o m t s c n = record { call = c; pairs = n; next = next_leaf o m s.after; free = word m 3 - length t.leaves }
+
 -- An append where the elements fit, else a rewrite as it is chosen.
 abbrev pub written : Choice → WordKind → List ℕ → Tree → Site → Deed → List (ℕ × ℕ) → List Pair → Plan
 written choose o m t s d xs ps =
     cond (nat_le (count_of m s.leaf + length xs) 16)
     (appending m t s.leaf (key_of d) xs)
-    (rewritten o m t s ps (choose (record { call = call_of d; pairs = length ps; next = next_leaf o m s.after; free = word m 3 - length t.leaves })))
+    (rewritten o m t s ps (choose (told_at o m t s (call_of d) (length ps))))
 
 abbrev pub carried : Choice → WordKind → List ℕ → Tree → Site → Deed → Wish → Plan
 carried choose o m t s d (declined e) = refuse e

@@ -5,11 +5,13 @@ ghost use Rattle.plans.specs.Example.{Example};
 ghost use Rattle.plans.specs.Free.{AllCandidates, AlwaysFree, TakesFree};
 ghost use Rattle.plans.specs.Laws.{BoundsRise, CommitsChange, PlansHold, RemovesGo};
 ghost use Rattle.plans.specs.Reach.{ReachesFew, ReachesInArea};
+ghost use Rattle.plans.specs.Room.{RuleSplits};
 ghost use Rattle.plans.specs.Sorts.{AppendsWithRoom, BoundsMove, LastIsGreatest};
 ghost use Rattle.plans.specs.Told.{DecisionLawful};
 
-// Whatever lawful choice rewrites leaves, a plan refuses only what must be refused; else it turns the book into the one with the call
-// done, in words that open to the plan's leaves and bounds, with one leaf free, in at most 87 steps.
+// Whatever lawful choice rewrites leaves, a plan refuses exactly what must be refused; else it turns the book into the one with the call
+// done, in words that open to the plan's leaves and bounds, with one leaf free: in 5 steps for each element and 2 where they fit, else in
+// at most 87.
 pub fn plans_stand()
     ensures hold { PlansHold }
     ensures removes { RemovesGo }
@@ -37,12 +39,13 @@ pub fn sorts_stand()
     ensures greatest { LastIsGreatest }
 {}
 
-// The rule decides lawfully, and splits into halves.
+// The rule decides lawfully, and splits more than 8 pairs into halves, where the call may.
 pub fn decisions_stand()
     ensures lawful { DecisionLawful }
     ensures halves { SplitHalves }
     ensures seventeen { SplitOfSeventeen }
     ensures never { NeverSplit }
+    ensures splits { RuleSplits }
 {}
 
 // The leaf that is taken is the next one that is free, and there is one while not all are used.

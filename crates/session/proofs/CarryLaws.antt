@@ -20,7 +20,7 @@ use Rattle.plans.specs.Deeds.{key_of}
 use Rattle.plans.specs.Plan.{Plan, Tree, refuse, nothing, writes, plan}
 use Rattle.plans.specs.Told.{by_rule}
 use Rattle.histories.specs.PlainBook.{find, next as next_after, pair_or, pairs as how_many, reading_or}
-use Rattle.histories.specs.Outcome.{State, Logbook, blank, in_use, dark, by_plan as plan_outcome, found as found_logbook, outcome, outcome_in, reply, reply_in, wrote as wrote_outcome}
+use Rattle.histories.specs.Outcome.{State, Logbook, blank, in_use, dark, by_opening, by_plan as plan_outcome, outcome, outcome_in, reply, reply_in, wrote as wrote_outcome}
 use Rattle.histories.specs.Histories.{Event, cut as cut_event}
 use Rattle.index.specs.declared.node.Entry.{Entry}
 use Rattle.index.specs.declared.record.NodeRecord.{NodeRecord}
@@ -112,9 +112,9 @@ module _ (o : WordKind) (m : Words) (x : Index) (tk : Option ℕ) (had : Option 
         removed_heard = rw a refl;
       }
   by_plan_told n (writes before commit t) lists is = by (perform m (change before commit)) refl where
-    by : (run : Run) → perform m (change before commit) ≡ run → CallTold m had r m' b tk' (wrote_outcome run.ended run commit t had).answer.result (wrote_outcome run.ended run commit t had).answer.steps (wrote_outcome run.ended run commit t had).state (groups_at (grouped x) n (wrote_outcome run.ended run commit t had).state.logbook)
+    by : (run : Run) → perform m (change before commit) ≡ run → CallTold m had r m' b tk' (wrote_outcome run.ended run t had).answer.result (wrote_outcome run.ended run t had).answer.steps (wrote_outcome run.ended run t had).state (groups_at (grouped x) n (wrote_outcome run.ended run t had).state.logbook)
     by run e = ended run.ended run e refl where
-      ended : (w : Answer) (run : Run) → perform m (change before commit) ≡ run → run.ended ≡ w → CallTold m had r m' b tk' (wrote_outcome w run commit t had).answer.result (wrote_outcome w run commit t had).answer.steps (wrote_outcome w run commit t had).state (groups_at (grouped x) n (wrote_outcome w run commit t had).state.logbook)
+      ended : (w : Answer) (run : Run) → perform m (change before commit) ≡ run → run.ended ≡ w → CallTold m had r m' b tk' (wrote_outcome w run t had).answer.result (wrote_outcome w run t had).answer.steps (wrote_outcome w run t had).state (groups_at (grouped x) n (wrote_outcome w run t had).state.logbook)
       ended (Ok _) run e w =
           let is' = is ∙ ap (λ (y : Run). wrote y.after y.steps y.ended (shape.groups (regrouped (grouped x) n t)) tk t.last) e ∙ ap (λ a. wrote run.after run.steps a (shape.groups (regrouped (grouped x) n t)) tk t.last) w in
           let (a, wd, s, l) = same_answer _ _ _ _ _ _ _ _ is' in
@@ -243,7 +243,7 @@ node_told_in (Open x) tk blank gs i t like heard = absurd like
 node_told_in (Open x) tk dark gs i t like heard = absurd like
 
 -- A cut.
-opened_like : (o : WordKind) (words : List ℕ) (r : Result (List ℕ) Fault) (b : Book) → shape_of b ≡ found_shape o words r → Like b None (found_logbook o words r) (groups_opened o words (found_logbook o words r))
+opened_like : (o : WordKind) (words : List ℕ) (r : Result (List ℕ) Fault) (b : Book) → shape_of b ≡ found_shape o words r → Like b None (by_opening o words r) (groups_opened o words (by_opening o words r))
 opened_like o words (Ok ks) b e =
     let es = paired ks (tops o words ks) in
     like_tree b (singles es) None (tree ks (bounds_of o words ks) None) e
@@ -314,7 +314,7 @@ module _ {K : Type 0} (k : Kind K) (choices : List ℕ) (from steps : ℕ) (s : 
         happened = (e, refl, refl, ap heard_cut r_is ∙ opening_heard (open_answer (in_words k) now.live));
         same = record {
           memory = sym (memory ∙ done);
-          logbook = subst (λ l. Like b l (found_logbook (in_words k) now.live (open_answer (in_words k) now.live)) (groups_opened (in_words k) now.live (found_logbook (in_words k) now.live (open_answer (in_words k) now.live)))) (sym (last ∙ ap (λ a. cut_taken a tk) e)) (opened_like (in_words k) now.live (open_answer (in_words k) now.live) b shaped);
+          logbook = subst (λ l. Like b l (by_opening (in_words k) now.live (open_answer (in_words k) now.live)) (groups_opened (in_words k) now.live (by_opening (in_words k) now.live (open_answer (in_words k) now.live)))) (sym (last ∙ ap (λ a. cut_taken a tk) e)) (opened_like (in_words k) now.live (open_answer (in_words k) now.live) b shaped);
         };
       })
       (cases_Bool (ltb (length choice) s.state.memory.choosing.many))

@@ -4,12 +4,11 @@ use Rattle.keys.specs.Kind.{Kind}
 use Rattle.keys.specs.InWords.{in_words}
 use Rattle.memory.specs.Meaning.{Settled, Words}
 use Rattle.plans.specs.Told.{by_rule}
-use Rattle.histories.specs.PlainBook.{plain}
 use Rattle.histories.specs.Outcome.{Logbook, blank, in_use, dark}
 use Rattle.index.specs.declared.node.Entry.{Entry}
 use Rattle.index.specs.Meaning.{grouped}
 use Rattle.histories.specs.Histories.{Event, Happens, History}
-use Rattle.histories.specs.Law.{HistoryLaw, after_format}
+use Rattle.histories.specs.Law.{HistoryLaw, account_of, after_format}
 use Rattle.tree.specs.declared.logbook.State.{State as Book}
 use Rattle.tree.specs.declared.logbook.State.TheVariants.{Blank, Open, Dark}
 use Rattle.tree.specs.Sound.{Sound}
@@ -62,6 +61,6 @@ pub record Session {K : Type 0} (k : Kind K) (m : Words) (leaves : ℕ) (choices
   pub happened : List (Option Event)
   pub played : Played k choices (formatted_index (in_words k) m leaves) acts happened answers
   pub history : History by_rule (in_words k) (after_format (in_words k) m leaves) (events happened)
-  pub law : Settled m → HistoryLaw by_rule (in_words k) (after_format (in_words k) m leaves) (plain []) (events happened)
+  pub law : Settled m → HistoryLaw by_rule (in_words k) (after_format (in_words k) m leaves) (account_of []) (events happened)
   -- The memory that is given back is the one that the history comes to.
   pub after : (onward_all k (formatted_index (in_words k) m leaves) happened).state.memory ≡ memory

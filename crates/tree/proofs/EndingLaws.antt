@@ -4,7 +4,8 @@ use Rattle.std.proofs.lemmas.Bool.{false≢true}
 use Rattle.std.proofs.lemmas.List.{length-map}
 use Rattle.std.proofs.lemmas.Option.{none-some}
 use Rattle.refusal.specs.declared.Refusal.{Refusal}
-use Rattle.refusal.specs.declared.Refusal.TheVariants.{NoPower, Blank as NotOpened}
+use Rattle.refusal.specs.declared.Refusal.TheVariants.{NoPower, NoRoom, Blank as NotOpened}
+use Rattle.refusal.specs.Numbers.{number_of}
 use Rattle.keys.specs.InWords.{WordKind, WordOrdered}
 use Rattle.memory.specs.Meaning.{Power, Words, endless, left}
 use Rattle.writes.specs.Writes.{Answer, LineWrite, Store, cost, fall, perform}
@@ -20,13 +21,16 @@ use Rattle.books.proofs.QuestionLaws.{linked_is}
 use Rattle.turns.proofs.TurnLaws.{granted_steps_hold, turns_hold}
 use Rattle.plans.specs.declared.deed.Deed.{Deed}
 use Rattle.plans.specs.declared.deed.Deed.TheVariants.{Remove}
-use Rattle.plans.specs.Deeds.{BringsHeld, Goes, done, key_of}
+use Rattle.plans.specs.Deeds.{BringsHeld, Declines, Goes, done, key_of}
 use Rattle.plans.specs.Laws.{Fulfils, Holds, Sound as SoundTree}
 use Rattle.plans.specs.Plan.{Plan, Tree, nothing, plan, refuse, writes}
+use Rattle.plans.specs.Room.{ExactlyWhen, LacksRoom, steps_enough}
 use Rattle.plans.specs.Told.{by_rule}
 use Rattle.plans.proofs.CallLaws.{nothing_changes_hold}
-use Rattle.plans.proofs.DecisionLaws.{decision_lawful}
+use Rattle.plans.proofs.DecisionLaws.{decision_lawful, rule_splits_holds}
+use Rattle.plans.proofs.DeedLaws.{declined_no_room, goes_not_declined, goes_not_held, room_no_power}
 use Rattle.plans.proofs.PlanLaws.{plans_hold}
+use Rattle.plans.proofs.RoomLaws.{enough_few}
 use Rattle.index.specs.declared.node.Entry.{Entry}
 use Rattle.index.specs.declared.table.Index.{Index}
 use Rattle.index.specs.Meaning.{grouped, listed}
@@ -35,19 +39,20 @@ use Rattle.index.specs.Search.{concat, front}
 use Rattle.tree.specs.declared.logbook.carry.Halt.{Halt}
 use Rattle.tree.specs.declared.logbook.State.{State}
 use Rattle.tree.specs.declared.logbook.State.TheVariants.{Blank, Open, Dark}
-use Rattle.tree.specs.Calls.{CallDone, DoneAfter, FewSteps, FromMemory, GrantedOrMemory, OfCalls, OneFree, Refused, Refuses, RemoveGoes, Settles, SoundAfter, StaysSettled, StaysSound, StepsTold, Why}
+use Rattle.tree.specs.Calls.{CallDone, DoneAfter, FewSteps, FromMemory, GrantedOrMemory, OfCalls, OneFree, Refused, Refuses, RemoveGoes, RoomTold, Settles, SoundAfter, StaysSettled, StaysSound, StepsTold, Why}
 use Rattle.tree.specs.Halting.{halted}
 use Rattle.tree.specs.Shape.{Shape, dark, groups, shape_of}
 use Rattle.tree.specs.Sound.{Fits, Sound}
 use Rattle.tree.specs.Turning.{Ending, by_plan, call_ending, ending, number_for, regrouped, tree_of, wrote}
-use Rattle.tree.proofs.KeptLaws.{bounded_ascends, number_there, performed_few, performed_live, performed_power, performed_refusal, same_refusal}
+use Rattle.tree.proofs.KeptLaws.{bounded_ascends, enough_none, number_there, performed_enough, performed_few, performed_live, performed_power, performed_refusal, same_refusal}
 use Rattle.tree.proofs.OpenLaws.{same_groups}
 use Rattle.tree.proofs.RegroupLaws.{Lists, Regroups, plan_regroups}
 
 -- A call that has written by its plan.
-record Written (o : WordKind) (m : Words) (x : Index) (d : Deed) (before : List LineWrite) (commit : Store) (after : Tree) : Type 0 where
+record Written (o : WordKind) (m : Words) (x : Index) (last : Option ℕ) (d : Deed) (before : List LineWrite) (commit : Store) (after : Tree) : Type 0 where
   goes : Goes d (lookup (key_of d) (book o m.live))
-  fulfils : Fulfils o m.live d before commit after
+  roomy : LacksRoom by_rule o m.live (tree_of x last) d → ⊥
+  fulfils : Fulfils o m.live (tree_of x last) d before commit after
   lists : Lists (regrouped (grouped x) (number_for o x (key_of d)) after) after
 
 -- A writing call is granted whole or broken off.
@@ -69,17 +74,15 @@ module _ (o : WordKind) (ordered : WordOrdered o) (m : Words) (x : Index) (last 
   here = let count = length-map (listed x) (λ (e : Entry). e.to) in omega (arith, number_there o ordered m.live (numbers (listed x)) (front (bounds (listed x))) (key_of d) fits.bounded)
 
   module _ (P : Ending → Type 0)
-      (refused : (e : Refusal) → Why o m.live (Open x) d e → P (ending (Err (halted e 0)) m (groups (grouped x)) last))
+      (refused : (e : Refusal) → Why o m.live (Open x) last d e → P (ending (Err (halted e 0)) m (groups (grouped x)) last))
       (kept : BringsHeld d (lookup (key_of d) (book o m.live)) → P (ending (Ok 0) m (groups (grouped x)) last))
-      (granted : (before : List LineWrite) (commit : Store) (after : Tree) → Written o m x d before commit after → (perform m (change before commit)).ended ≡ Ok tt → P (ending (Ok (perform m (change before commit)).steps) (perform m (change before commit)).after (groups (regrouped (grouped x) n after)) after.last))
-      (broken : (before : List LineWrite) (commit : Store) (after : Tree) → Written o m x d before commit after → (e : Refusal) → (perform m (change before commit)).ended ≡ Err e → P (ending (Err (halted e (perform m (change before commit)).steps)) (perform m (change before commit)).after dark last)) where
-    plan_ends : (p : Plan) → Holds o m.live t d p → Regroups (grouped x) n p → P (by_plan n m x last p)
-    plan_ends (refuse e) h r =
-        let count = length-map (listed x) (λ (e : Entry). e.to) in
-        refused e (⊎_elim (λ own. inl own) (λ full. inr (full.0, full.1, omega (arith, full.2), full.3)) h)
+      (granted : (before : List LineWrite) (commit : Store) (after : Tree) → Written o m x last d before commit after → (perform m (change before commit)).ended ≡ Ok tt → P (ending (Ok (perform m (change before commit)).steps) (perform m (change before commit)).after (groups (regrouped (grouped x) n after)) after.last))
+      (broken : (before : List LineWrite) (commit : Store) (after : Tree) → Written o m x last d before commit after → (e : Refusal) → (perform m (change before commit)).ended ≡ Err e → P (ending (Err (halted e (perform m (change before commit)).steps)) (perform m (change before commit)).after dark last)) where
+    plan_ends : (p : Plan) → Holds by_rule o m.live t d p → Regroups (grouped x) n p → P (by_plan n m x last p)
+    plan_ends (refuse e) h r = refused e (⊎_elim (λ own. inl own) (λ full. inr (full.0, full.1, full.2)) h)
     plan_ends nothing h r = kept h
     plan_ends (writes before commit after) h r =
-        let w : Written o m x d before commit after = record { goes = h.0; fulfils = h.1; lists = r } in
+        let w : Written o m x last d before commit after = record { goes = h.0; roomy = h.1; fulfils = h.2; lists = r } in
         let run = perform m (change before commit) in
         wrote_ends P run.after run.steps run.ended (groups (regrouped (grouped x) n after)) last after.last (granted before commit after w) (broken before commit after w)
 
@@ -143,7 +146,7 @@ same_halt : (a b : Halt) → ◌≡◌ {A = Result ℕ Halt} (Err a) (Err b) →
 same_halt a b e = cc
 
 -- A call's own refusal, and one of the memory.
-own_refusal : (o : WordKind) (m : Words) (s : State) (last : Option ℕ) (d : Deed) (e : Refusal) → Why o m.live s d e → (h : Halt) → ◌≡◌ {A = Result ℕ Halt} (Err (halted e 0)) (Err h)
+own_refusal : (o : WordKind) (m : Words) (s : State) (last : Option ℕ) (d : Deed) (e : Refusal) → Why o m.live s last d e → (h : Halt) → ◌≡◌ {A = Result ℕ Halt} (Err (halted e 0)) (Err h)
     → Refused o m s last d h (ending (Err (halted e 0)) m (shape_of s) last)
 own_refusal o m s last d e why h q =
     subst (λ h. Refused o m s last d h (ending (Err (halted e 0)) m (shape_of s) last)) (same_halt (halted e 0) h q)
@@ -159,6 +162,28 @@ refuses_hold o ordered m (Open x) last d sound valid =
     (λ before commit after w ended h q. err_ok q refl)
     (λ before commit after w e ended h q. inl (told_refusal FromMemory e _ h q (performed_refusal m (change before commit) e w.fulfils.turns.proper ended)))
 refuses_hold o ordered m Dark last d sound valid = λ h q. inl (told_refusal FromMemory NoPower 0 h q (inl refl))
+
+-- Refused for room.
+room_refusal : (e : Refusal) (n : ℕ) → ◌≡◌ {A = Result ℕ Halt} (Err (halted e n)) (Err (halted NoRoom 0)) → e ≡ NoRoom
+room_refusal e n q = ap (λ (h : Halt). h.refusal) (same_halt (halted e n) (halted NoRoom 0) q)
+
+memory_no_room : (e : Refusal) → FromMemory e → e ≡ NoRoom → ⊥
+memory_no_room e from is = ⊎_elim (λ dry. room_no_power (sym is ∙ dry)) (λ torn. let n = ap number_of (sym torn ∙ is) in absurd (omega arith)) from
+
+pub room_told_holds : RoomTold
+room_told_holds o ordered m x last d sound valid =
+    let held = lookup (key_of d) (book o m.live) in
+    call_ends o ordered m x last d sound valid (λ e. ExactlyWhen (e.answer ≡ Err (halted NoRoom 0)) (Goes d held × LacksRoom by_rule o m.live (tree_of x last) d))
+    (λ e why. (
+      λ q. ⊎_elim (λ own. absurd (declined_no_room d held (subst (Declines d held) (room_refusal e 0 q) own))) (λ full. (full.1, full.2)) why,
+      λ (goes, lacks). ⊎_elim (λ own. absurd (goes_not_declined d held e goes own)) (λ full. ap (λ f. Err (halted f 0)) full.0) why,
+    ))
+    (λ same. (λ q. err_ok q refl, λ (goes, lacks). absurd (goes_not_held d held goes same)))
+    (λ before commit after w ended. (λ q. err_ok q refl, λ (goes, lacks). absurd (w.roomy lacks)))
+    (λ before commit after w e ended. (
+      λ q. absurd (memory_no_room e (performed_refusal m (change before commit) e w.fulfils.turns.proper ended) (room_refusal e _ q)),
+      λ (goes, lacks). absurd (w.roomy lacks),
+    ))
 
 enough_less : (p : Power) (j k : ℕ) → j ≤ k → Enough p k → Enough p j
 enough_less endless j k le h = tt
@@ -188,7 +213,7 @@ stays_settled_holds o ordered m (Open x) last d sound valid settled =
     record {
       granted = λ steps q. err_ok refl q;
       refused = λ h q. inl (told_refusal (λ r. r ≡ NoPower) e _ h q (⊎_elim (λ ok. err_ok ended ok) (λ dry. same_refusal _ _ (sym ended ∙ dry)) turned.ended));
-      powered = λ bright enough h q. err_ok ended (turned.granted (enough_less m.power (cost (change before commit)) 87 w.fulfils.few enough)).0;
+      powered = λ bright enough h q. err_ok ended (turned.granted (enough_less m.power (cost (change before commit)) (steps_enough o m.live (tree_of x last) d) w.fulfils.few enough)).0;
     })
 stays_settled_holds o ordered m Dark last d sound valid settled = record {
   granted = λ steps q. err_ok refl q;
@@ -196,24 +221,29 @@ stays_settled_holds o ordered m Dark last d sound valid settled = record {
   powered = λ bright enough h q. absurd (bright refl);
 }
 
-no_steps : (m : Words) → (0 ≤ 87) × (m.power ≡ fall m.power 0)
-no_steps m = (omega arith, sym (fall_none m.power))
+no_steps : (m : Words) → (0 ≤ 87) × Enough m.power 0 × (m.power ≡ fall m.power 0)
+no_steps m = (omega arith, enough_none m.power, sym (fall_none m.power))
 
-ran_steps : (o : WordKind) (m : Words) (x : Index) (d : Deed) (before : List LineWrite) (commit : Store) (after : Tree) → Written o m x d before commit after
-    → ((perform m (change before commit)).steps ≤ 87) × ((perform m (change before commit)).after.power ≡ fall m.power (perform m (change before commit)).steps)
-ran_steps o m x d before commit after w = (omega (arith, performed_few m (change before commit), w.fulfils.few), performed_power m (change before commit))
+ran_steps : (o : WordKind) (m : Words) (x : Index) (last : Option ℕ) (d : Deed) (before : List LineWrite) (commit : Store) (after : Tree) → Written o m x last d before commit after
+    → ((perform m (change before commit)).steps ≤ 87) × Enough m.power (perform m (change before commit)).steps × ((perform m (change before commit)).after.power ≡ fall m.power (perform m (change before commit)).steps)
+ran_steps o m x last d before commit after w =
+    let ws = change before commit in (
+      omega (arith, performed_few m ws, w.fulfils.few, enough_few o m.live (tree_of x last) d),
+      performed_enough m ws,
+      performed_power m ws,
+    )
 
 pub few_steps_hold : FewSteps
 few_steps_hold o ordered m Blank last d sound valid = no_steps m
 few_steps_hold o ordered m (Open x) last d sound valid =
     call_ends o ordered m x last d sound valid (StepsTold m) (λ e why. no_steps m) (λ same. no_steps m)
-    (λ before commit after w ended. ran_steps o m x d before commit after w) (λ before commit after w e ended. ran_steps o m x d before commit after w)
+    (λ before commit after w ended. ran_steps o m x last d before commit after w) (λ before commit after w e ended. ran_steps o m x last d before commit after w)
 few_steps_hold o ordered m Dark last d sound valid = no_steps m
 
 pub remove_goes_holds : RemoveGoes
 remove_goes_holds o ordered m x last w r sound valid held =
     call_ends o ordered m x last (Remove w) sound valid GrantedOrMemory
-    (λ e why. ⊎_elim (λ own. absurd (none-some r (sym own.1 ∙ held))) (λ full. absurd (false≢true full.1)) why)
+    (λ e why. ⊎_elim (λ own. absurd (none-some r (sym own.1 ∙ held))) (λ full. absurd (false≢true ((rule_splits_holds o m.live (tree_of x last) (Remove w)).0 full.2.splits).0)) why)
     (λ same. absurd same)
     (λ before commit after writ ended. inl (_, refl))
     (λ before commit after writ e ended. inr (_, refl, performed_refusal m (change before commit) e writ.fulfils.turns.proper ended))

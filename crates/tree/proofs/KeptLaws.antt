@@ -1,11 +1,12 @@
 -- What a change keeps: bounds that part keys ascend, and what line writes leave of the memory.
-use Rattle.std.proofs.Common.{◌≡◌, ℕ, suc, ◌*◌, ◌<◌, ◌≤◌, Bool, true, false, eqb, leb, cond, List, [], ◌∷◌, ◌++◌, length, take, get_or, None, Ok, Err, sym, refl, ap, ◌∙◌, subst, inl, inr, ⊎_elim, length-append, length-set, length-take, arith}
+use Rattle.std.proofs.Common.{◌≡◌, ℕ, zero, suc, ◌*◌, ◌<◌, ◌≤◌, Bool, true, false, eqb, leb, cond, List, [], ◌∷◌, ◌++◌, length, take, get_or, None, Ok, Err, sym, refl, ap, ◌∙◌, subst, inl, inr, ⊎_elim, length-append, length-set, length-take, arith}
 use Rattle.std.proofs.lemmas.Bool.{cases_Bool, cond-false, false≢true, lt-leb}
 use Rattle.refusal.specs.declared.Refusal.{Refusal}
 use Rattle.refusal.specs.declared.Refusal.TheVariants.{NoPower, Outside, Unsettled}
 use Rattle.keys.specs.InWords.{WordKind, WordOrdered}
-use Rattle.memory.specs.Meaning.{Words, exhausted, flush_answer, size_of, store_answer}
-use Rattle.writes.specs.Writes.{Answer, LineWrite, Lined, Op, Proper, Run, Store, all_ops, cost, did, fall, finished, flush, line_ops, next, perform, run, store}
+use Rattle.memory.specs.Meaning.{Power, Words, endless, exhausted, flush_answer, left, size_of, spent, store_answer}
+use Rattle.writes.specs.Laws.{Enough}
+use Rattle.writes.specs.Writes.{Answer, LineWrite, Lined, Op, Proper, Run, Store, all_ops, answer, cost, did, fall, finished, flush, line_ops, next, perform, run, store}
 use Rattle.writes.proofs.Done.{done_live, done_power, run_done, run_few}
 use Rattle.writes.proofs.Steps.{first_steps_hold}
 use Rattle.leaves.specs.Layout.{element}
@@ -104,6 +105,34 @@ length_ops : (ws : List LineWrite) → length (all_ops ws) ≡ cost ws
 length_ops [] = refl
 length_ops (w ∷ ws) = omega (arith, length-append (line_ops w.line w.stores) (all_ops ws), length_line w.line w.stores, length_ops ws)
 
+-- The steps that were taken had been there.
+pub enough_none : (p : Power) → Enough p 0
+enough_none endless = tt
+enough_none (left n) = omega arith
+
+enough_back : (p : Power) (k : ℕ) → exhausted p ≡ false → Enough (spent p) k → Enough p (suc k)
+enough_back endless k bright h = tt
+enough_back (left zero) k bright h = absurd (false≢true (sym bright))
+enough_back (left (suc n)) k bright h = omega arith
+
+granted_bright : (out dry same : Bool) → ◌≡◌ {A = Answer} (cond out (Err Outside) (cond dry (Err NoPower) (cond same (Ok tt) (Err Unsettled)))) (Ok tt) → dry ≡ false
+granted_bright true dry same h = err_ok refl h
+granted_bright false true same h = err_ok refl h
+granted_bright false false same h = refl
+
+enough_did : (m : Words) (o : Op) (k : ℕ) → answer m o ≡ Ok tt → Enough (did m o).power k → Enough m.power (suc k)
+enough_did m (store s) k h more = enough_back m.power k (granted_bright (leb (size_of m) s.at) (exhausted m.power) (eqb (get_or m.live s.at 0) (get_or m.firm s.at 0)) h) more
+enough_did m (flush l) k h more = enough_back m.power k (granted_bright (leb (size_of m) (8 * l)) (exhausted m.power) true h) more
+
+enough_next : (m : Words) (o : Op) (a : Answer) (r : Run) → answer m o ≡ a → Enough (did m o).power r.steps → Enough m.power (next m a r).steps
+enough_next m o (Ok tt) r is more = enough_did m o r.steps is more
+enough_next m o (Err e) r is more = enough_none m.power
+
+run_enough : (m : Words) (ops : List Op) → Enough m.power (run m ops).steps
+unfolding run
+run_enough m [] = enough_none m.power
+run_enough m (o ∷ ops) = enough_next m o (answer m o) (run (did m o) ops) refl (run_enough (did m o) ops)
+
 -- What line writes leave, granted whole or not.
 module _ (m : Words) (ws : List LineWrite) where
   pub performed_refusal : (e : Refusal) → Proper (size_of m) ws → (perform m ws).ended ≡ Err e → FromMemory e
@@ -117,6 +146,10 @@ module _ (m : Words) (ws : List LineWrite) where
   pub performed_few : (perform m ws).steps ≤ cost ws
   unfolding perform
   performed_few = omega (arith, run_few m (all_ops ws), length_ops ws)
+
+  pub performed_enough : Enough m.power (perform m ws).steps
+  unfolding perform
+  performed_enough = run_enough m (all_ops ws)
 
   pub performed_power : (perform m ws).after.power ≡ fall m.power (perform m ws).steps
   unfolding perform

@@ -18,7 +18,7 @@ use Rattle.plans.specs.declared.deed.Call.{Call}
 use Rattle.plans.specs.declared.decision.Decision.{Decision}
 use Rattle.plans.specs.Deeds.{key_of}
 use Rattle.plans.specs.Told.{by_rule}
-use Rattle.plans.specs.Plan.{Plan, Tree, Wish, declined, elements, granted, next_leaf, nothing, pairs_of, plan, refuse, rewritten, site, taken, writes}
+use Rattle.plans.specs.Plan.{Plan, Tree, Wish, declined, elements, granted, nothing, pairs_of, plan, refuse, rewritten, site, taken, told_at, writes}
 use Rattle.index.specs.declared.node.Entry.{Entry}
 use Rattle.index.specs.declared.table.Index.{Index}
 use Rattle.index.specs.declared.table.Place.{Place}
@@ -110,7 +110,7 @@ decided_ending o m x taken w ps d = by_plan (number_for o x w) m x taken (rewrit
 abbrev pub rewrite_ending : WordKind → Words → Index → Option ℕ → ℕ × ℕ → Call → List Pair → Ending
 rewrite_ending o m x taken w c ps =
     decided_ending o m x taken w ps
-    (by_rule (record { call = c; pairs = length ps; next = next_leaf o m.live (site o (tree_of x taken) w).after; free = word m.live 3 - length (numbers (listed x)) }))
+    (by_rule (told_at o m.live (tree_of x taken) (site o (tree_of x taken) w) c (length ps)))
 
 -- A call's ending, as its answer tells it.
 abbrev pub told : Result Done Halt → Result ℕ Halt
