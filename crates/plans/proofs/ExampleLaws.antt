@@ -1,6 +1,11 @@
 -- The example, by computation.
-use Rattle.std.proofs.Common.{refl}
-use Rattle.plans.specs.Example.{Example}
+use Rattle.std.proofs.Common.{◌≡◌, ◌+◌, ◌<◌, length, refl, arith}
+use Rattle.leaves.specs.Layout.{word}
+use Rattle.plans.specs.Example.{Example, tight}
+
+-- Two leaves, of which one is linked.
+few : word tight.words 3 < length tight.tree.leaves + 2
+few = let all : word tight.words 3 ≡ 2 = refl in let linked : length tight.tree.leaves ≡ 1 = refl in omega (arith, all, linked)
 
 pub example_holds : Example
 example_holds = record {
@@ -9,6 +14,10 @@ example_holds = record {
   replace = record { steps = refl; tree = refl };
   merge = record { removed = refl; steps = refl; tree = refl };
   crowded = refl;
+  lacks = record { full = refl; splits = (8, refl); few = few };
+  put_steps = refl;
+  change_steps = refl;
+  rewrite_steps = refl;
   present = refl;
   absent = (refl, refl);
   held = refl;

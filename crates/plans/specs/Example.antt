@@ -6,7 +6,9 @@ use Rattle.writes.specs.Laws.{change}
 use Rattle.rewrites.specs.Example.{zeros, stamps}
 use Rattle.plans.specs.declared.deed.Deed.{Deed}
 use Rattle.plans.specs.declared.deed.Deed.TheVariants.{Put, Change, Remove}
+use Rattle.plans.specs.Told.{by_rule}
 use Rattle.plans.specs.Plan.{Tree, Plan, refuse, nothing, writes, plan}
+use Rattle.plans.specs.Room.{LacksRoom, steps_enough}
 use Rattle.plans.specs.Laws.{Sound}
 use Rattle.plans.specs.Sorts.{steps_of}
 
@@ -50,6 +52,10 @@ formatted n rest = record { words = 30366 ∷ 1 ∷ 1 ∷ n ∷ zeros rest; tree
 abbrev pub full : Played
 full = play (formatted 3 220) (puts 1 17)
 
+-- Days 1 to 16 put into two leaves: leaf 1 is full, and leaf 2 is free.
+abbrev pub tight : Played
+tight = play (formatted 2 148) (puts 1 16)
+
 -- More calls after those, with their own steps.
 abbrev pub afterwards : List Deed → Played
 afterwards ds = play (record { words = full.words; tree = full.tree; steps = [] }) ds
@@ -85,7 +91,12 @@ pub record Example : Type 0 where
   pub replace : ReplaceRow
   pub merge : MergeRow
   -- With two leaves the split has no room.
-  pub crowded : next_plan (play (formatted 2 148) (puts 1 16)) (Put (day 17) 17) ≡ refuse NoRoom
+  pub crowded : next_plan tight (Put (day 17) 17) ≡ refuse NoRoom
+  pub lacks : LacksRoom by_rule stamps tight.words tight.tree (Put (day 17) 17)
+  -- Leaf 3 has room for a put and for a change; leaf 1, full, has not.
+  pub put_steps : steps_enough stamps full.words full.tree (Put (day 18) 18) ≡ 7
+  pub change_steps : steps_enough stamps full.words full.tree (Change (day 17) 0) ≡ 12
+  pub rewrite_steps : steps_enough stamps tight.words tight.tree (Put (day 17) 17) ≡ 87
   -- A key that is there, one that is not, and the reading that is held.
   pub present : next_plan full (Put (day 1) 7) ≡ refuse Present
   pub absent : (next_plan full (Change (day 18) 7) ≡ refuse Absent) × (next_plan full (Remove (day 18)) ≡ refuse Absent)
