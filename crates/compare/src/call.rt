@@ -1,4 +1,6 @@
 // What is asked of a logbook, with keys as their words.
+ghost use Rattle.std.specs.Prelude.{◌≡◌, drop};
+
 use crate::kinds::Words;
 
 #[derive(Clone, Copy)]
@@ -34,6 +36,8 @@ impl Call {
 }
 
 // The choices of a cut: those from a word on.
-pub fn choices_from(choices: &[u64], from: usize) -> &[u64] {
+pub fn choices_from(choices: &[u64], from: usize) -> &[u64]
+    ensures { result.now ≡ drop from choices.now }
+{
     choices.get(from..).unwrap_or(&[])
 }

@@ -7,7 +7,7 @@ use crate::difference::{Difference, What};
 use crate::direct::Calling;
 use crate::kinds::Kind;
 use crate::layout::{leaf_word, slot_word};
-use crate::lists::{List, Setting, any_call};
+use crate::lists::{List, Setting, any_call, any_cut};
 use crate::model::Model;
 use crate::piles::on_setting;
 use crate::tally::{Tally, count};
@@ -91,15 +91,20 @@ fn calls(alloc: Global, dice: &mut Dice, setting: &Setting) -> Result<Vec<Call>,
     for number in 0..20 {
         calls.push(Call::Node { number })?;
     }
-    for _ in 0..dice.below(40) {
-        let sort = dice.index(8);
+    let many = if dice.once_in(4) { 40 } else { 6 };
+    for _ in 0..dice.below(many) {
+        let sort = dice.index(7);
         let key = setting.kind.key(dice.below(60));
         calls.push(match dice.below(30) {
             0 => Call::Open,
             1 => Call::Format {
                 leaves: dice.index(9),
             },
-            _ => any_call(dice, sort, key, setting.live.len()),
+            2 | 3 => {
+                let steps = dice.below(60);
+                any_cut(dice, setting.live.len(), steps)
+            }
+            _ => any_call(dice, sort, key),
         })?;
     }
     Ok(calls)

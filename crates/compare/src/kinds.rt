@@ -23,7 +23,7 @@ pub fn is_port(identity: u64, number: u64) -> bool {
     identity != u64::MAX && (1..65_535).contains(&number)
 }
 
-// Keys of few values, so that lists meet the same ones again: their order is not that of the numbers they are made from.
+// Keys of neighbouring numbers are near one another, but not all in the order of the numbers, nor in that of their first words.
 fn stamp(number: u64) -> Words {
     let day = number % 365 + 1;
     let year = number / 365 % 400 + 2000;
@@ -32,8 +32,8 @@ fn stamp(number: u64) -> Words {
 }
 
 fn port(number: u64) -> Words {
-    let identity = (number % 5).wrapping_mul(0x1b19_fffe_0000_0001);
-    (identity, number / 5 % 65_534 + 1)
+    let identity = (number / 7).wrapping_mul(0x001b_19ff_fe00_0001);
+    (identity, 65_534 - number % 7)
 }
 
 impl Kind {

@@ -1,7 +1,7 @@
 // Random lists: the memory that a logbook lies in, and the calls.
 use crate::call::Call;
 use crate::dice::Dice;
-use crate::kinds::Kind;
+use crate::kinds::{Kind, Words};
 use crate::layers::Layer;
 use crate::layout::needed;
 use std::alloc::{AllocError, Global};
@@ -14,6 +14,14 @@ pub struct Setting {
     pub layers: Vec<Layer>,
     pub live: Vec<u64>,
     pub firm: Vec<u64>,
+}
+
+// Whether the steps of a list's memory never end, seem not to, or end soon and again.
+#[derive(Clone, Copy)]
+enum Supply {
+    Endless,
+    Ample,
+    Scarce,
 }
 
 // What is played: a format of so many leaves, then the calls. The session plays the list's beginnings, each so many calls longer than
@@ -30,35 +38,57 @@ pub struct List {
 // What calls there are most of for a while, and how their keys are chosen.
 #[derive(Clone, Copy)]
 struct Mood {
-    weights: [u64; 8],
-    rising: bool,
+    weights: [u64; 7],
+    keys: Keys,
     calls: u64,
 }
 
-const GROWS: [u64; 8] = [64, 8, 4, 6, 6, 2, 4, 3];
+// One after the other, any, or any of a few neighbours.
+#[derive(Clone, Copy)]
+enum Keys {
+    Rising,
+    Any,
+    Near { from: u64 },
+}
 
-const CHANGES: [u64; 8] = [16, 48, 10, 6, 6, 2, 4, 3];
+// Put, change, remove, find, next, pairs and node, of a hundred.
+const GROWS: [u64; 7] = [76, 8, 4, 4, 4, 2, 2];
 
-const SHRINKS: [u64; 8] = [8, 8, 60, 6, 6, 2, 4, 3];
+const CHANGES: [u64; 7] = [10, 70, 8, 4, 4, 2, 2];
 
-const MIXED: [u64; 8] = [30, 15, 25, 6, 6, 2, 4, 12];
+const SHRINKS: [u64; 7] = [6, 12, 70, 4, 4, 2, 2];
 
-fn any_mood(dice: &mut Dice) -> Mood {
-    let weights = match dice.below(5) {
-        0 | 1 => GROWS,
-        2 => CHANGES,
-        3 => SHRINKS,
-        _ => MIXED,
+fn any_mood(dice: &mut Dice, keys: u64) -> Mood {
+    let near = Keys::Near {
+        from: dice.below(keys),
+    };
+    let (weights, keys) = match dice.below(9) {
+        0 | 1 => (GROWS, Keys::Rising),
+        2 => (GROWS, Keys::Any),
+        3 | 4 => (CHANGES, near),
+        5 => (CHANGES, Keys::Any),
+        6 | 7 => (SHRINKS, near),
+        _ => (SHRINKS, Keys::Any),
     };
     Mood {
         weights,
-        rising: dice.once_in(3),
-        calls: dice.below(80).saturating_add(10),
+        keys,
+        calls: dice.below(60).saturating_add(10),
     }
 }
 
-// One of eight by their weights.
-fn weighed(dice: &mut Dice, weights: &[u64; 8]) -> usize {
+// The number of the next key, of so many, by the one before.
+fn next_number(dice: &mut Dice, mood: &Mood, keys: u64, before: u64) -> u64 {
+    let number = match mood.keys {
+        Keys::Rising => before.wrapping_add(1),
+        Keys::Any => dice.below(keys),
+        Keys::Near { from } => from.wrapping_add(dice.below(9)),
+    };
+    number % keys.max(1)
+}
+
+// One of the calls by their weights.
+fn weighed(dice: &mut Dice, weights: &[u64; 7]) -> usize {
     let mut all = 0_u64;
     for weight in weights {
         all = all.saturating_add(*weight);
@@ -73,13 +103,14 @@ fn weighed(dice: &mut Dice, weights: &[u64; 8]) -> usize {
     0
 }
 
-fn steps_after(dice: &mut Dice) -> u64 {
-    match dice.below(8) {
-        0 => dice.below(14),
-        1 | 2 => dice.below(100),
-        3 | 4 => dice.below(600),
-        5 => u64::MAX,
-        _ => 10_000,
+// The steps after a cut.
+fn steps_after(dice: &mut Dice, supply: Supply) -> u64 {
+    match (supply, dice.below(6)) {
+        (Supply::Scarce, 0) => dice.below(14),
+        (Supply::Scarce, 1 | 2) => dice.below(40),
+        (Supply::Scarce, _) => dice.below(200),
+        (_, 0) => u64::MAX,
+        (_, _) => 1_000_000,
     }
 }
 
@@ -120,7 +151,8 @@ fn node_number(dice: &mut Dice) -> usize {
     }
 }
 
-pub fn any_call(dice: &mut Dice, sort: usize, key: (u64, u64), size: usize) -> Call {
+// A call of a sort, as the weights list them.
+pub fn any_call(dice: &mut Dice, sort: usize, key: Words) -> Call {
     match sort {
         0 => Call::Put {
             key,
@@ -134,41 +166,58 @@ pub fn any_call(dice: &mut Dice, sort: usize, key: (u64, u64), size: usize) -> C
         3 => Call::Find { key },
         4 => Call::Next { key },
         5 => Call::Pairs,
-        6 => Call::Node {
+        _ => Call::Node {
             number: node_number(dice),
-        },
-        _ => Call::Cut {
-            from: choice(dice, size),
-            steps: steps_after(dice),
         },
     }
 }
 
-// So many calls, of keys from so many; a cut stands after a dark logbook soon, for cuts are frequent.
-fn calls(
+pub fn any_cut(dice: &mut Dice, size: usize, steps: u64) -> Call {
+    Call::Cut {
+        from: choice(dice, size),
+        steps,
+    }
+}
+
+// The calls of a list: many, of so many keys, on so many words at the bottom.
+#[derive(Clone, Copy)]
+struct Length {
+    calls: usize,
+    keys: u64,
+    size: usize,
+}
+
+fn is_cut(dice: &mut Dice, supply: Supply) -> bool {
+    match supply {
+        Supply::Scarce => dice.once_in(7),
+        _ => dice.once_in(50),
+    }
+}
+
+fn any_calls(
     alloc: Global,
     dice: &mut Dice,
     kind: Kind,
-    many: usize,
-    keys: u64,
-    size: usize,
+    supply: Supply,
+    length: Length,
 ) -> Result<Vec<Call>, AllocError> {
     let mut calls = Vec::new(alloc);
-    let mut mood = any_mood(dice);
+    let mut mood = any_mood(dice, length.keys);
     mood.weights = GROWS;
-    let mut number = dice.below(keys);
-    for _ in 0..many {
+    let mut number = dice.below(length.keys);
+    for _ in 0..length.calls {
         if mood.calls == 0 {
-            mood = any_mood(dice);
+            mood = any_mood(dice, length.keys);
         }
         mood.calls = mood.calls.saturating_sub(1);
-        number = if mood.rising {
-            number.wrapping_add(1) % keys.max(1)
+        number = next_number(dice, &mood, length.keys, number);
+        calls.push(if is_cut(dice, supply) {
+            let steps = steps_after(dice, supply);
+            any_cut(dice, length.size, steps)
         } else {
-            dice.below(keys)
-        };
-        let sort = weighed(dice, &mood.weights);
-        calls.push(any_call(dice, sort, kind.key(number), size))?;
+            let sort = weighed(dice, &mood.weights);
+            any_call(dice, sort, kind.key(number))
+        })?;
     }
     Ok(calls)
 }
@@ -235,17 +284,29 @@ fn make_firm(dice: &mut Dice, live: &mut Vec<u64>) -> Result<Vec<u64>, AllocErro
     Ok(firm)
 }
 
-fn make_steps(dice: &mut Dice) -> Option<u64> {
-    match dice.below(8) {
-        0 | 1 => None,
-        2 => Some(dice.below(30)),
-        3 | 4 => Some(dice.below(500)),
-        _ => Some(100_000),
+fn make_steps(dice: &mut Dice, supply: Supply) -> Option<u64> {
+    match supply {
+        Supply::Endless => None,
+        Supply::Ample => Some(1_000_000),
+        Supply::Scarce => Some(dice.below(120)),
+    }
+}
+
+fn any_supply(dice: &mut Dice) -> Supply {
+    match dice.below(6) {
+        0 => Supply::Endless,
+        1..=3 => Supply::Ample,
+        _ => Supply::Scarce,
     }
 }
 
 // A memory for so many leaves; sometimes a few words short.
-fn any_setting(alloc: Global, dice: &mut Dice, leaves: usize) -> Result<Setting, AllocError> {
+fn any_setting(
+    alloc: Global,
+    dice: &mut Dice,
+    supply: Supply,
+    leaves: usize,
+) -> Result<Setting, AllocError> {
     let (layers, hidden) = layers(alloc, dice)?;
     let enough = needed(leaves).saturating_add(hidden);
     let size = if dice.once_in(30) {
@@ -257,7 +318,7 @@ fn any_setting(alloc: Global, dice: &mut Dice, leaves: usize) -> Result<Setting,
     let firm = make_firm(dice, &mut live)?;
     Ok(Setting {
         kind: Kind::any(dice),
-        steps: make_steps(dice),
+        steps: make_steps(dice, supply),
         layers,
         live,
         firm,
@@ -297,10 +358,15 @@ fn key_range(dice: &mut Dice, leaves: usize) -> u64 {
 
 pub fn any_list(alloc: Global, dice: &mut Dice) -> Result<List, AllocError> {
     let (leaves, many, stride) = sizes(dice);
-    let setting = any_setting(alloc, dice, leaves)?;
-    let keys = key_range(dice, leaves);
+    let supply = any_supply(dice);
+    let setting = any_setting(alloc, dice, supply, leaves)?;
     let size = setting.live.len().min(setting.firm.len());
-    let calls = calls(alloc, dice, setting.kind, many, keys, size)?;
+    let length = Length {
+        calls: many,
+        keys: key_range(dice, leaves),
+        size,
+    };
+    let calls = any_calls(alloc, dice, setting.kind, supply, length)?;
     let choices = choices(alloc, dice, size)?;
     let leaves = match dice.below(30) {
         0 => dice.index(2),
