@@ -2,6 +2,7 @@
 ghost use Rattle.std.specs.Prelude.{◌≡◌, drop};
 
 use crate::kinds::Words;
+use std::fmt;
 
 #[derive(Clone, Copy)]
 pub enum Call {
@@ -31,6 +32,29 @@ impl Call {
             Call::Pairs => 7,
             Call::Node { .. } => 8,
             Call::Cut { .. } => 9,
+        }
+    }
+}
+
+impl fmt::Display for Call {
+    fn fmt<W: fmt::Write>(&self, f: &mut fmt::Formatter<W>) -> fmt::Result {
+        match *self {
+            Call::Format { leaves } => write!(f, "format of {leaves} leaves"),
+            Call::Open => write!(f, "open"),
+            Call::Put {
+                key: (a, b),
+                reading,
+            } => write!(f, "put {a} {b}, reading {reading}"),
+            Call::Change {
+                key: (a, b),
+                reading,
+            } => write!(f, "change {a} {b}, reading {reading}"),
+            Call::Remove { key: (a, b) } => write!(f, "remove {a} {b}"),
+            Call::Find { key: (a, b) } => write!(f, "find {a} {b}"),
+            Call::Next { key: (a, b) } => write!(f, "next {a} {b}"),
+            Call::Pairs => write!(f, "pairs"),
+            Call::Node { number } => write!(f, "node {number}"),
+            Call::Cut { from, steps } => write!(f, "cut by the choices from {from}, {steps} steps"),
         }
     }
 }

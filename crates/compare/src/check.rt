@@ -1,4 +1,4 @@
-// A list played by the rules and by the session, and compared after each call.
+// A list played by the rules and by the session, and compared after its calls.
 use crate::answer::Answer;
 use crate::call::Call;
 use crate::difference::{Difference, What};
@@ -10,7 +10,13 @@ use crate::tally::{Tally, count};
 use crate::words::Memory;
 use std::alloc::{AllocError, Global};
 
-type Checked = Result<Option<Difference>, AllocError>;
+pub type Checked = Result<Option<Difference>, AllocError>;
+
+// What differs, and in which call, or after it.
+pub type Found = Option<(usize, What)>;
+
+// The session tells every node after the calls of a list, and one past the last.
+pub const NODES: usize = 92;
 
 // The rules' logbook over a memory of this setting.
 pub fn reckoning(alloc: Global, setting: &Setting) -> Result<Model, AllocError> {
@@ -38,35 +44,42 @@ fn unlike(ours: &[u64], theirs: &[u64]) -> Option<(usize, u64, u64)> {
     None
 }
 
-// The words and the steps that both sides have in the end; the firm words of a through memory are its live ones.
-pub fn compare_left(model: &Model, left: &Left, tally: &mut Tally) -> Option<What> {
-    let memory = &model.memory;
+// The words of both sides; the firm words of a through memory are its live ones.
+fn compare_words(memory: &Memory, left: &Left, tally: &mut Tally) -> Option<What> {
     if let Some((at, ours, theirs)) = unlike(memory.live.as_slice(), left.live.as_slice()) {
         return Some(What::Live { at, ours, theirs });
     }
-    let firm = if memory.steps.is_none() {
-        left.live.as_slice()
-    } else {
-        left.firm.as_slice()
+    let firm = match memory.steps {
+        None => left.live.as_slice(),
+        Some(_) => left.firm.as_slice(),
     };
     if let Some((at, ours, theirs)) = unlike(memory.firm.as_slice(), firm) {
         return Some(What::Firm { at, ours, theirs });
     }
-    if memory.steps != left.steps {
+    let words = left.live.len().saturating_add(firm.len());
+    tally.words = tally.words.saturating_add(words as u64);
+    None
+}
+
+// What both sides have in the end: words, steps, and that the rules' side agrees with itself.
+pub fn compare_left(model: &Model, left: &Left, tally: &mut Tally) -> Option<What> {
+    let found = compare_words(&model.memory, left, tally);
+    if found.is_some() {
+        return found;
+    }
+    if model.memory.steps != left.steps {
         return Some(What::Steps {
-            ours: memory.steps,
+            ours: model.memory.steps,
             theirs: left.steps,
         });
     }
-    let words = left.live.len().saturating_add(firm.len());
-    tally.words = tally.words.saturating_add(words as u64);
     count(&mut tally.steps);
     model.flaw.map(|flaw| What::Flaw { flaw })
 }
 
 // Every node, from what was told of them after the calls.
-pub fn compare_nodes(model: &Model, told: &[Answer], tally: &mut Tally) -> Option<What> {
-    for node in 0..92 {
+fn compare_nodes(model: &Model, told: &[Answer], tally: &mut Tally) -> Option<What> {
+    for node in 0..NODES {
         let ours = model.node(node);
         let theirs = told.get(node).copied().unwrap_or(Answer::NotPlayed);
         if ours != theirs {
@@ -77,19 +90,23 @@ pub fn compare_nodes(model: &Model, told: &[Answer], tally: &mut Tally) -> Optio
     None
 }
 
-// Answers, from one call on.
-pub fn compare_answers(ours: &[Answer], theirs: &[Answer], from: usize) -> Option<What> {
+// The answers from one call on.
+pub fn compare_answers(ours: &[Answer], theirs: &[Answer], from: usize) -> Found {
     for (call, ours) in ours.iter().enumerate().skip(from) {
         let theirs = theirs.get(call).copied().unwrap_or(Answer::NotPlayed);
         if *ours != theirs {
-            return Some(What::Call {
-                call,
-                ours: *ours,
-                theirs,
-            });
+            let ours = *ours;
+            return Some((call, What::Answer { ours, theirs }));
         }
     }
     None
+}
+
+// With the call that it is found in.
+pub fn told_of(calls: &[Call], found: Found) -> Option<Difference> {
+    let (number, what) = found?;
+    let call = *calls.get(number)?;
+    Some(Difference { number, call, what })
 }
 
 // The session's play of the first calls of a list.
@@ -103,7 +120,6 @@ fn played<'a>(
         leaves: list.leaves,
         calls,
         choices: list.choices.as_slice(),
-        formatted: Answer::NotPlayed,
         told: Vec::new(alloc),
     };
     let left = on_setting(&list.setting, &mut playing)?;
@@ -118,60 +134,51 @@ fn compare_beginning(
     from: usize,
     tally: &mut Tally,
 ) -> Checked {
-    let calls = list.calls.as_slice().get(..ours.len()).unwrap_or(&[]);
-    let (playing, left) = played(*list.calls.allocator(), list, calls)?;
+    let calls = list.calls.as_slice();
+    let beginning = calls.get(..ours.len()).unwrap_or(&[]);
+    let (playing, left) = played(list.alloc, list, beginning)?;
     count(&mut tally.plays);
-    if playing.formatted != Answer::Granted {
-        let (ours, theirs) = (Answer::Granted, playing.formatted);
-        return Ok(Some(at(0, What::Format { ours, theirs })));
-    }
     let told = playing.told.as_slice();
     let nodes = told.get(ours.len()..).unwrap_or(&[]);
-    let what = compare_answers(ours, told, from)
-        .or_else(|| compare_left(model, &left, tally))
-        .or_else(|| compare_nodes(model, nodes, tally));
-    Ok(what.map(|what| at(ours.len(), what)))
+    let last = ours.len().saturating_sub(1);
+    let mut found = compare_answers(ours, told, from);
+    if found.is_none() {
+        found = compare_left(model, &left, tally).map(|what| (last, what));
+    }
+    if found.is_none() {
+        found = compare_nodes(model, nodes, tally).map(|what| (last, what));
+    }
+    Ok(told_of(calls, found))
 }
 
-fn at(after: usize, what: What) -> Difference {
-    Difference { after, what }
-}
-
-// A list whose format is refused: nothing is played.
+// A list whose format is refused: nothing else is played.
 fn compare_refused(list: &List, model: &Model, refused: Answer, tally: &mut Tally) -> Checked {
-    let (playing, left) = played(*list.calls.allocator(), list, list.calls.as_slice())?;
+    let calls = list.calls.as_slice();
+    let (playing, left) = played(list.alloc, list, calls)?;
     count(&mut tally.plays);
-    if playing.formatted != refused {
-        let (ours, theirs) = (refused, playing.formatted);
-        return Ok(Some(at(0, What::Format { ours, theirs })));
+    let mut ours = vec![in list.alloc; refused]?;
+    for _ in 1..playing.told.len() {
+        ours.push(Answer::NotPlayed)?;
     }
-    for theirs in playing.told.iter() {
-        if *theirs != Answer::NotPlayed {
-            let (ours, theirs) = (Answer::NotPlayed, *theirs);
-            return Ok(Some(at(0, What::Format { ours, theirs })));
-        }
+    let mut found = compare_answers(ours.as_slice(), playing.told.as_slice(), 0);
+    if found.is_none() {
+        found = compare_left(model, &left, tally).map(|what| (0, what));
     }
-    Ok(compare_left(model, &left, tally).map(|what| at(0, what)))
+    Ok(told_of(calls, found))
 }
 
 // Plays a list by the rules, and compares it with the session at every stride and in the end.
-pub fn compare_list(alloc: Global, list: &List, model: &mut Model, tally: &mut Tally) -> Checked {
-    let choices = list.choices.as_slice();
-    let format = Call::Format {
-        leaves: list.leaves,
-    };
-    let answer = model.call(&format, choices, tally)?;
-    tally.call(&format, &answer);
-    if answer != Answer::Granted {
-        return compare_refused(list, model, answer, tally);
-    }
-    let mut ours = Vec::new(alloc);
+pub fn compare_list(list: &List, model: &mut Model, stride: usize, tally: &mut Tally) -> Checked {
+    let mut ours = Vec::new(list.alloc);
     let mut compared = 0_usize;
-    for call in list.calls.iter() {
-        let answer = model.call(call, choices, tally)?;
+    for (number, call) in list.calls.iter().enumerate() {
+        let answer = model.call(call, list.choices.as_slice(), tally)?;
         tally.call(call, &answer);
         ours.push(answer)?;
-        if ours.len() % list.stride.max(1) == 0 || ours.len() == list.calls.len() {
+        if number == 0 && answer != Answer::Granted {
+            return compare_refused(list, model, answer, tally);
+        }
+        if number % stride.max(1) == 0 || ours.len() == list.calls.len() {
             let found = compare_beginning(list, model, ours.as_slice(), compared, tally)?;
             if found.is_some() {
                 return Ok(found);

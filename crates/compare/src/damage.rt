@@ -1,9 +1,8 @@
 // Random damaged words, and calls of a logbook on them: opening, and what it tells when it is open or blank.
 use crate::answer::Answer;
 use crate::call::Call;
-use crate::check::{compare_answers, compare_left, reckoning};
+use crate::check::{Checked, NODES, compare_answers, compare_left, reckoning, told_of};
 use crate::dice::Dice;
-use crate::difference::{Difference, What};
 use crate::direct::Calling;
 use crate::kinds::Kind;
 use crate::layout::{leaf_word, slot_word};
@@ -84,30 +83,40 @@ fn damaged(
     })
 }
 
-// Opening, how many pairs there are, some nodes, and then any calls.
-fn calls(alloc: Global, dice: &mut Dice, setting: &Setting) -> Result<Vec<Call>, AllocError> {
+// Opening, how many pairs there are, every node if it is granted, and then any calls.
+fn calls_on(
+    alloc: Global,
+    dice: &mut Dice,
+    setting: &Setting,
+    opens: bool,
+) -> Result<Vec<Call>, AllocError> {
     let mut calls = vec![in alloc; Call::Open]?;
     calls.push(Call::Pairs)?;
-    for number in 0..20 {
+    let (nodes, many) = if opens { (NODES, 60) } else { (2, 10) };
+    for number in 0..nodes {
         calls.push(Call::Node { number })?;
     }
-    let many = if dice.once_in(4) { 40 } else { 6 };
     for _ in 0..dice.below(many) {
-        let sort = dice.index(7);
-        let key = setting.kind.key(dice.below(60));
-        calls.push(match dice.below(30) {
-            0 => Call::Open,
-            1 => Call::Format {
-                leaves: dice.index(9),
-            },
-            2 | 3 => {
-                let steps = dice.below(60);
-                any_cut(dice, setting.live.len(), steps)
-            }
-            _ => any_call(dice, sort, key),
-        })?;
+        calls.push(any_of_all(dice, setting))?;
     }
     Ok(calls)
+}
+
+// A call of any sort.
+fn any_of_all(dice: &mut Dice, setting: &Setting) -> Call {
+    let sort = dice.index(7);
+    let key = setting.kind.key(dice.below(60));
+    match dice.below(30) {
+        0 => Call::Open,
+        1 => Call::Format {
+            leaves: dice.index(9),
+        },
+        2 | 3 => {
+            let steps = dice.below(60);
+            any_cut(dice, setting.live.len(), steps)
+        }
+        _ => any_call(dice, sort, key),
+    }
 }
 
 // Plays calls by the rules and on a logbook, and compares them.
@@ -117,7 +126,7 @@ fn compare_calls(
     calls: &[Call],
     choices: &[u64],
     tally: &mut Tally,
-) -> Result<Option<Difference>, AllocError> {
+) -> Checked {
     let mut model = reckoning(alloc, setting)?;
     let mut ours: Vec<Answer> = Vec::new(alloc);
     for call in calls {
@@ -133,26 +142,29 @@ fn compare_calls(
     };
     let left = on_setting(setting, &mut calling)?;
     count(&mut tally.direct);
-    let what: Option<What> = compare_answers(ours.as_slice(), calling.told.as_slice(), 0).or_else(
-        || compare_left(&model, &left, tally),
-    );
-    Ok(what.map(|what| Difference {
-        after: ours.len(),
-        what,
-    }))
+    let last = ours.len().saturating_sub(1);
+    let mut found = compare_answers(ours.as_slice(), calling.told.as_slice(), 0);
+    if found.is_none() {
+        found = compare_left(&model, &left, tally).map(|what| (last, what));
+    }
+    Ok(told_of(calls, found))
+}
+
+// Whether the rules' logbook opens these words.
+fn opens(alloc: Global, setting: &Setting) -> Result<bool, AllocError> {
+    let mut tally = Tally::new();
+    let mut model = reckoning(alloc, setting)?;
+    let answer = model.call(&Call::Open, &[], &mut tally)?;
+    Ok(answer == Answer::Granted)
 }
 
 // Damaged copies of what a list has left.
-pub fn compare_damaged(
-    alloc: Global,
-    dice: &mut Dice,
-    list: &List,
-    model: &Model,
-    tally: &mut Tally,
-) -> Result<Option<Difference>, AllocError> {
+pub fn compare_damaged(dice: &mut Dice, list: &List, model: &Model, tally: &mut Tally) -> Checked {
+    let alloc = list.alloc;
     for _ in 0..12 {
         let setting = damaged(alloc, dice, list, model)?;
-        let calls = calls(alloc, dice, &setting)?;
+        let opens = opens(alloc, &setting)?;
+        let calls = calls_on(alloc, dice, &setting, opens)?;
         let choices = list.choices.as_slice();
         let found = compare_calls(alloc, &setting, calls.as_slice(), choices, tally)?;
         if found.is_some() {

@@ -1,17 +1,13 @@
 // The first thing in which the logbook and the rules differ.
 use crate::answer::Answer;
+use crate::call::Call;
 use crate::kinds::Words;
 use crate::model::Flaw;
 use std::fmt;
 
 #[derive(Clone, Copy)]
 pub enum What {
-    Format {
-        ours: Answer,
-        theirs: Answer,
-    },
-    Call {
-        call: usize,
+    Answer {
         ours: Answer,
         theirs: Answer,
     },
@@ -46,22 +42,18 @@ pub enum What {
     },
 }
 
-// After so many calls of a list.
+// In a call, or in what stands after it; calls are counted from 0, the format or the opening.
 #[derive(Clone, Copy)]
 pub struct Difference {
-    pub after: usize,
+    pub number: usize,
+    pub call: Call,
     pub what: What,
 }
 
 impl fmt::Display for What {
     fn fmt<W: fmt::Write>(&self, f: &mut fmt::Formatter<W>) -> fmt::Result {
         match self {
-            What::Format { ours, theirs } => {
-                write!(f, "format: {ours} by the rules, {theirs} told")
-            }
-            What::Call { call, ours, theirs } => {
-                write!(f, "call {call}: {ours} by the rules, {theirs} told")
-            }
+            What::Answer { ours, theirs } => write!(f, "{ours} by the rules, {theirs} told"),
             What::Node { node, ours, theirs } => {
                 write!(f, "node {node}: {ours} by the rules, {theirs} told")
             }
@@ -91,5 +83,12 @@ impl fmt::Display for What {
                 write!(f, "the book after a cut is not the one of the law of cuts")
             }
         }
+    }
+}
+
+impl fmt::Display for Difference {
+    fn fmt<W: fmt::Write>(&self, f: &mut fmt::Formatter<W>) -> fmt::Result {
+        let Difference { number, call, what } = self;
+        write!(f, "call {number}, {call}: {what}")
     }
 }

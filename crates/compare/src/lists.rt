@@ -24,10 +24,11 @@ enum Supply {
     Scarce,
 }
 
-// What is played: a format of so many leaves, then the calls. The session plays the list's beginnings, each so many calls longer than
-// the one before.
+// What is played: the calls, of which the first is a format of so many leaves. The session plays the list's beginnings, each by a stride
+// longer than the one before.
 #[derive(Drop)]
 pub struct List {
+    pub alloc: Global,
     pub setting: Setting,
     pub leaves: usize,
     pub calls: Vec<Call>,
@@ -179,9 +180,10 @@ pub fn any_cut(dice: &mut Dice, size: usize, steps: u64) -> Call {
     }
 }
 
-// The calls of a list: many, of so many keys, on so many words at the bottom.
+// What a list is made of: leaves for the format, calls, keys to choose from, words at the bottom.
 #[derive(Clone, Copy)]
 struct Length {
+    leaves: usize,
     calls: usize,
     keys: u64,
     size: usize,
@@ -201,7 +203,11 @@ fn any_calls(
     supply: Supply,
     length: Length,
 ) -> Result<Vec<Call>, AllocError> {
-    let mut calls = Vec::new(alloc);
+    let mut calls = vec![in alloc;
+        Call::Format {
+            leaves: length.leaves
+        },
+    ]?;
     let mut mood = any_mood(dice, length.keys);
     mood.weights = GROWS;
     let mut number = dice.below(length.keys);
@@ -325,18 +331,23 @@ fn any_setting(
     })
 }
 
-// Leaves, calls, and by how many calls each beginning is longer than the one before.
-fn sizes(dice: &mut Dice) -> (usize, usize, usize) {
-    match dice.below(10) {
+// Leaves, calls, and the stride.
+fn any_sizes(dice: &mut Dice) -> (usize, usize, usize) {
+    match dice.below(40) {
         0 => (
-            dice.index(48).saturating_add(17),
-            dice.index(600).saturating_add(700),
-            150,
+            dice.index(25).saturating_add(40),
+            dice.index(1000).saturating_add(1500),
+            400,
         ),
         1..=3 => (
+            dice.index(48).saturating_add(17),
+            dice.index(600).saturating_add(400),
+            100,
+        ),
+        4..=14 => (
             dice.index(14).saturating_add(4),
             dice.index(200).saturating_add(100),
-            9,
+            6,
         ),
         _ => (
             dice.index(4).saturating_add(2),
@@ -356,27 +367,33 @@ fn key_range(dice: &mut Dice, leaves: usize) -> u64 {
     }
 }
 
+// The leaves to be formatted: now and then too few or too many.
+fn formatted(dice: &mut Dice, leaves: usize) -> usize {
+    match dice.below(60) {
+        0 => dice.index(2),
+        1 => dice.index(10).saturating_add(65),
+        2 => dice.roll() as usize,
+        _ => leaves,
+    }
+}
+
 pub fn any_list(alloc: Global, dice: &mut Dice) -> Result<List, AllocError> {
-    let (leaves, many, stride) = sizes(dice);
+    let (leaves, many, stride) = any_sizes(dice);
     let supply = any_supply(dice);
     let setting = any_setting(alloc, dice, supply, leaves)?;
     let size = setting.live.len().min(setting.firm.len());
     let length = Length {
+        leaves: formatted(dice, leaves),
         calls: many,
         keys: key_range(dice, leaves),
         size,
     };
     let calls = any_calls(alloc, dice, setting.kind, supply, length)?;
     let choices = choices(alloc, dice, size)?;
-    let leaves = match dice.below(30) {
-        0 => dice.index(2),
-        1 => dice.index(10).saturating_add(65),
-        2 => dice.roll() as usize,
-        _ => leaves,
-    };
     Ok(List {
+        alloc,
         setting,
-        leaves,
+        leaves: length.leaves,
         calls,
         choices,
         stride,

@@ -1,12 +1,12 @@
 //! A reckoning of its own of what a logbook does, by docs/RULES.md alone, against the logbook and its session: `compare START LISTS`.
 #![tactic(auto)]
 
-use check::{compare_list, reckoning};
+use check::{Checked, compare_list, reckoning};
 use damage::compare_damaged;
 use dice::Dice as Numbers;
-use difference::{Difference, What};
+use lists::any_list;
 use makings::compare_keys;
-use std::alloc::{AllocError, Global};
+use std::alloc::Global;
 use std::{env, io};
 use tally::{Tally as Counts, count};
 
@@ -33,45 +33,52 @@ mod told;
 mod tree;
 mod words;
 
-// One list and damaged copies of what it leaves, all from one number.
-fn compare(
-    alloc: Global,
-    start: u64,
-    tally: &mut Counts,
-) -> Result<Option<Difference>, AllocError> {
+// One list and damaged copies of what it leaves, all from one number. Where there is a difference the list is played again and compared
+// after each call, so that the first one is told.
+fn compare(alloc: Global, start: u64, tally: &mut Counts) -> Checked {
     let mut dice = Numbers::new(start);
-    let list = lists::any_list(alloc, &mut dice)?;
+    let list = any_list(alloc, &mut dice)?;
     let mut model = reckoning(alloc, &list.setting)?;
     count(&mut tally.lists);
-    let found = compare_list(alloc, &list, &mut model, tally)?;
-    if found.is_some() {
-        return Ok(found);
+    if compare_list(&list, &mut model, list.stride, tally)?.is_some() {
+        let mut again = reckoning(alloc, &list.setting)?;
+        return compare_list(&list, &mut again, 1, tally);
     }
-    compare_damaged(alloc, &mut dice, &list, &model, tally)
+    compare_damaged(&mut dice, &list, &model, tally)
 }
 
-fn show_difference(rt: &impl Print, start: u64, found: &Difference) -> io::Result<()> {
-    let Difference { after, what } = found;
-    println!(rt; "DIFFERENCE in the list from {start}, after {after} calls: {what}")
-}
-
-fn run(rt: &impl Print, alloc: Global, start: u64, lists: u64) -> io::Result<()> {
-    println!(rt; "The rules against the logbook: {lists} lists from {start} on")?;
-    let mut tally = Counts::new();
-    let mut dice = Numbers::new(start);
-    let found: Option<What> = compare_keys(&mut dice, lists.saturating_mul(50), &mut tally);
-    if let Some(what) = found {
+// The keys, then the lists: whether nothing differs.
+fn compare_all(
+    rt: &impl Print,
+    alloc: Global,
+    start: u64,
+    lists: u64,
+    tally: &mut Counts,
+) -> io::Result<bool> {
+    let keys = lists.saturating_mul(50);
+    if let Some(what) = compare_keys(&mut Numbers::new(start), keys, tally) {
         println!(rt; "DIFFERENCE: {what}")?;
+        return Ok(false);
     }
     for i in 0..lists {
         let at = start.wrapping_add(i);
-        if let Some(found) = compare(alloc, at, &mut tally)? {
-            show_difference(rt, at, &found)?;
-            return tally.show(rt);
+        if let Some(found) = compare(alloc, at, tally)? {
+            println!(rt; "DIFFERENCE in list {at}, {found}")?;
+            return Ok(false);
         }
     }
+    Ok(true)
+}
+
+fn run(rt: &impl Print, alloc: Global, start: u64, lists: u64) -> io::Result<()> {
+    println!(rt; "The rules beside the logbook: {lists} lists from {start} on")?;
+    let mut tally = Counts::new();
+    let alike = compare_all(rt, alloc, start, lists, &mut tally)?;
     tally.show(rt)?;
-    println!(rt; "no difference")
+    if alike {
+        println!(rt; "no difference")?;
+    }
+    Ok(())
 }
 
 fn main(rt: HostRuntime) -> io::Result<()> {
@@ -79,7 +86,7 @@ fn main(rt: HostRuntime) -> io::Result<()> {
     let mut words = env::args(&rt)?;
     let _program = words.next();
     let (Some(start), Some(lists)) = (words.next(), words.next()) else {
-        return run(&rt, alloc, 1, 40);
+        return run(&rt, alloc, 1, 200);
     };
     match (start.parse::<u64>(), lists.parse::<u64>()) {
         (Ok(start), Ok(lists)) => run(&rt, alloc, start, lists),

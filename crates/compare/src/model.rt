@@ -105,9 +105,8 @@ impl Model {
         if self.memory.size() < needed(leaves) {
             return Ok(Answer::Refused { number: 4 });
         }
-        let settled = self.memory.is_settled();
+        let settled = self.memory.unsettled() == 0;
         let steps = format_steps(self.alloc, self.kind.code(), leaves)?;
-        self.waiting = None;
         if let (_, Some(number)) = self.memory.take(steps.as_slice()) {
             self.state = State::Dark;
             self.lawful = false;
@@ -122,6 +121,7 @@ impl Model {
         let tree = Tree::built(self.alloc, leaves, chain)?;
         self.state = State::Open { tree };
         self.book = Book::new(self.alloc, self.kind);
+        self.waiting = None;
         self.lawful = settled;
         Ok(Answer::Granted)
     }
@@ -138,7 +138,7 @@ impl Model {
             Opening::Granted { tree, book } => {
                 self.state = State::Open { tree };
                 self.book = book;
-                self.lawful = self.memory.is_settled();
+                self.lawful = self.memory.unsettled() == 0;
                 Ok(Answer::Granted)
             }
             Opening::Refused { number, leaf, slot } => {
@@ -247,6 +247,7 @@ impl Model {
             self.flaw = Some(Flaw::Cost);
         }
         tally.sort(sort);
+        tally.linked = tally.linked.max(tree.chain.len());
         self.book = after;
         self.state = State::Open { tree };
         match removed {
@@ -312,9 +313,11 @@ impl Model {
         steps: u64,
         tally: &mut Tally,
     ) -> Result<Answer, AllocError> {
+        let unsettled = self.memory.unsettled();
         if !self.memory.cut(choices, steps) {
             return Ok(Answer::Refused { number: 4 });
         }
+        tally.chosen = tally.chosen.saturating_add(unsettled as u64);
         self.by_law(tally);
         let lawful = self.lawful;
         let expected = self.book.copied()?;

@@ -1,6 +1,7 @@
 // A list played by the session.
 use crate::answer::Answer;
 use crate::call::Call;
+use crate::check::NODES;
 use crate::piles::Use;
 use crate::told::{of_act, of_format};
 use keys::Key;
@@ -9,14 +10,13 @@ use session::act::{Act, Told};
 use session::play::play;
 use std::alloc::{AllocError, Global};
 
-// The list, and what was told of it.
+// The list, its format first, and what was told of it.
 #[derive(Drop)]
 pub struct Playing<'a> {
     pub alloc: Global,
     pub leaves: usize,
     pub calls: &'a [Call],
     pub choices: &'a [u64],
-    pub formatted: Answer,
     pub told: Vec<Answer>,
 }
 
@@ -55,7 +55,7 @@ fn acts<K: Key>(alloc: Global, calls: &[Call]) -> Result<Vec<Act<K>>, AllocError
             acts.push(act)?;
         }
     }
-    for number in 0..92 {
+    for number in 0..NODES {
         acts.push(Act::Node { number })?;
     }
     Ok(acts)
@@ -80,7 +80,7 @@ impl Use for Playing<'_> {
             self.choices,
             told.as_mut_slice(),
         );
-        self.formatted = of_format(formatted);
+        self.told.push(of_format(formatted))?;
         for told in told.iter() {
             self.told.push(of_act(told))?;
         }

@@ -21,6 +21,8 @@ pub struct Tally {
     pub steps: u64,
     pub nodes: u64,
     pub keys: u64,
+    pub linked: usize,
+    pub chosen: u64,
     calls: [u64; 10],
     refusals: [u64; 15],
     sorts: [u64; 4],
@@ -47,6 +49,8 @@ impl Tally {
             steps: 0,
             nodes: 0,
             keys: 0,
+            linked: 0,
+            chosen: 0,
             calls: [0; 10],
             refusals: [0; 15],
             sorts: [0; 4],
@@ -120,12 +124,14 @@ impl Tally {
             "  calls: format {format}, open {open}, put {put}, change {change}, remove {remove}, find {find}, next {next}, pairs {pairs}, node {node}, cut {cut}"
         )?;
         let [append, split, merge, replacement] = self.sorts;
+        let linked = self.linked;
         println!(rt;
-            "  granted with steps: append {append}, split {split}, merge {merge}, replacement {replacement}"
+            "  granted with steps: append {append}, split {split}, merge {merge}, replacement {replacement}; at most {linked} leaves linked"
         )?;
         let [none, made, dropped] = self.fates;
+        let chosen = self.chosen;
         println!(rt;
-            "  cuts: no call waited {none}, the waiting call stood new {made}, did not {dropped}"
+            "  cuts: no call waited {none}, the waiting call stood new {made}, did not {dropped}; words old or new by choice {chosen}"
         )?;
         print!(rt; "  refusals:")?;
         for (number, many) in self.refusals.iter().enumerate().skip(1) {

@@ -62,14 +62,15 @@ impl Memory {
         self.places.len()
     }
 
-    // Whether live and firm are alike in every word of the bottom memory.
-    pub fn is_settled(&self) -> bool {
+    // How many words of the bottom memory are live and firm not alike: a cut may leave these old or new.
+    pub fn unsettled(&self) -> usize {
+        let mut many = 0_usize;
         for (live, firm) in self.live.iter().zip(self.firm.iter()) {
             if live != firm {
-                return false;
+                many = many.saturating_add(1);
             }
         }
-        true
+        many
     }
 
     // The bottom word under a word.
