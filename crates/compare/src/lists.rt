@@ -271,7 +271,16 @@ fn run(alloc: Global, dice: &mut Dice, size: usize) -> Result<Vec<u64>, AllocErr
     Ok(run)
 }
 
-// The firm words: as the live ones, but perhaps one run longer than the other, and perhaps a few words unsettled.
+// Makes one word in so many another one.
+fn unsettle(dice: &mut Dice, words: &mut Vec<u64>, rarity: u64) {
+    for word in words.iter_mut() {
+        if dice.once_in(rarity) {
+            *word = dice.below(4);
+        }
+    }
+}
+
+// The firm words: as the live ones, but perhaps one run longer than the other, and perhaps some words unsettled.
 fn make_firm(dice: &mut Dice, live: &mut Vec<u64>) -> Result<Vec<u64>, AllocError> {
     let mut firm = live.clone()?;
     match dice.below(6) {
@@ -279,13 +288,10 @@ fn make_firm(dice: &mut Dice, live: &mut Vec<u64>) -> Result<Vec<u64>, AllocErro
         1 => live.push(dice.roll())?,
         _ => (),
     }
-    if dice.once_in(6) {
-        for _ in 0..dice.below(12) {
-            let at = dice.index(live.len());
-            if let Some(word) = firm.get_mut(at) {
-                *word = dice.below(4);
-            }
-        }
+    match dice.below(12) {
+        0 => unsettle(dice, &mut firm, 8),
+        1 => unsettle(dice, &mut firm, 60),
+        _ => (),
     }
     Ok(firm)
 }
