@@ -78,6 +78,19 @@ fn any_mood(dice: &mut Dice, keys: u64) -> Mood {
     }
 }
 
+// A third of a list makes the book that the rest works on.
+fn first_mood(dice: &mut Dice, calls: usize) -> Mood {
+    Mood {
+        weights: GROWS,
+        keys: if dice.once_in(2) {
+            Keys::Rising
+        } else {
+            Keys::Any
+        },
+        calls: (calls / 3) as u64,
+    }
+}
+
 // The number of the next key, of so many, by the one before.
 fn next_number(dice: &mut Dice, mood: &Mood, keys: u64, before: u64) -> u64 {
     let number = match mood.keys {
@@ -208,8 +221,7 @@ fn any_calls(
             leaves: length.leaves
         },
     ]?;
-    let mut mood = any_mood(dice, length.keys);
-    mood.weights = GROWS;
+    let mut mood = first_mood(dice, length.calls);
     let mut number = dice.below(length.keys);
     for _ in 0..length.calls {
         if mood.calls == 0 {
