@@ -1,12 +1,13 @@
 // Random damaged words, and calls of a logbook on them: opening, and what it tells when it is open or blank.
 use crate::answer::Answer;
 use crate::call::Call;
+use crate::calls::{any_call, any_cut};
 use crate::check::{Checked, NODES, compare_answers, compare_left, reckoning, told_of};
 use crate::dice::Dice;
 use crate::direct::Calling;
 use crate::kinds::Kind;
 use crate::layout::{leaf_word, slot_word};
-use crate::lists::{List, Setting, any_call, any_cut};
+use crate::lists::{List, Setting, unsettle};
 use crate::model::Model;
 use crate::piles::on_setting;
 use crate::tally::{Tally, count};
@@ -50,7 +51,8 @@ fn poke(dice: &mut Dice, model: &Model, words: &mut Vec<u64>, leaves: usize) {
     }
 }
 
-// The words that a list has left, with some damage; the make may be another one, a little shorter, and the kind of key another.
+// The words that a list has left, with some damage; the make may be another one, a little shorter or unsettled, and the kind of key
+// another.
 fn damaged(
     alloc: Global,
     dice: &mut Dice,
@@ -62,10 +64,10 @@ fn damaged(
     if dice.once_in(16) {
         live.truncate(live.len().saturating_sub(dice.index(100)));
     }
-    let firm = match dice.below(4) {
-        0 => model.memory.firm.clone()?,
-        _ => live.clone()?,
-    };
+    let mut firm = live.clone()?;
+    if dice.once_in(3) {
+        unsettle(dice, &mut firm, 8);
+    }
     let kind = match dice.below(16) {
         0 => Kind::any(dice),
         _ => list.setting.kind,

@@ -1,9 +1,11 @@
 // Random lists: the memory that a logbook lies in, and the calls.
 use crate::call::Call;
+use crate::calls::{any_call, any_cut, choices};
 use crate::dice::Dice;
-use crate::kinds::{Kind, Words};
+use crate::kinds::Kind;
 use crate::layers::Layer;
 use crate::layout::needed;
+use crate::moods::{any_mood, first_mood, next_number, weighed};
 use std::alloc::{AllocError, Global};
 
 // A make under layers. No number of steps: a through memory, and then the firm words are not used.
@@ -36,87 +38,6 @@ pub struct List {
     pub stride: usize,
 }
 
-// What calls there are most of for a while, and how their keys are chosen.
-#[derive(Clone, Copy)]
-struct Mood {
-    weights: [u64; 7],
-    keys: Keys,
-    calls: u64,
-}
-
-// One after the other, any, or any of a few neighbours.
-#[derive(Clone, Copy)]
-enum Keys {
-    Rising,
-    Any,
-    Near { from: u64 },
-}
-
-// Put, change, remove, find, next, pairs and node, of a hundred.
-const GROWS: [u64; 7] = [76, 8, 4, 4, 4, 2, 2];
-
-const CHANGES: [u64; 7] = [10, 70, 8, 4, 4, 2, 2];
-
-const SHRINKS: [u64; 7] = [6, 12, 70, 4, 4, 2, 2];
-
-fn any_mood(dice: &mut Dice, keys: u64) -> Mood {
-    let near = Keys::Near {
-        from: dice.below(keys),
-    };
-    let (weights, keys) = match dice.below(9) {
-        0 | 1 => (GROWS, Keys::Rising),
-        2 => (GROWS, Keys::Any),
-        3 | 4 => (CHANGES, near),
-        5 => (CHANGES, Keys::Any),
-        6 | 7 => (SHRINKS, near),
-        _ => (SHRINKS, Keys::Any),
-    };
-    Mood {
-        weights,
-        keys,
-        calls: dice.below(60).saturating_add(10),
-    }
-}
-
-// A third of a list makes the book that the rest works on.
-fn first_mood(dice: &mut Dice, calls: usize) -> Mood {
-    Mood {
-        weights: GROWS,
-        keys: if dice.once_in(2) {
-            Keys::Rising
-        } else {
-            Keys::Any
-        },
-        calls: (calls / 3) as u64,
-    }
-}
-
-// The number of the next key, of so many, by the one before.
-fn next_number(dice: &mut Dice, mood: &Mood, keys: u64, before: u64) -> u64 {
-    let number = match mood.keys {
-        Keys::Rising => before.wrapping_add(1),
-        Keys::Any => dice.below(keys),
-        Keys::Near { from } => from.wrapping_add(dice.below(9)),
-    };
-    number % keys.max(1)
-}
-
-// One of the calls by their weights.
-fn weighed(dice: &mut Dice, weights: &[u64; 7]) -> usize {
-    let mut all = 0_u64;
-    for weight in weights {
-        all = all.saturating_add(*weight);
-    }
-    let mut left = dice.below(all);
-    for (i, weight) in weights.iter().enumerate() {
-        if left < *weight {
-            return i;
-        }
-        left = left.saturating_sub(*weight);
-    }
-    0
-}
-
 // The steps after a cut.
 fn steps_after(dice: &mut Dice, supply: Supply) -> u64 {
     match (supply, dice.below(6)) {
@@ -125,71 +46,6 @@ fn steps_after(dice: &mut Dice, supply: Supply) -> u64 {
         (Supply::Scarce, _) => dice.below(200),
         (_, 0) => u64::MAX,
         (_, _) => 1_000_000,
-    }
-}
-
-// The choices of a list: all live, all firm, and then any, each as many as there are words.
-fn choices(alloc: Global, dice: &mut Dice, size: usize) -> Result<Vec<u64>, AllocError> {
-    let mut choices = vec![in alloc; 1; size]?;
-    for _ in 0..size {
-        choices.push(0)?;
-    }
-    for _ in 0..size.saturating_mul(2) {
-        choices.push(dice.roll())?;
-    }
-    Ok(choices)
-}
-
-// Where the choices of a cut begin; sometimes too few are left.
-fn choice(dice: &mut Dice, size: usize) -> usize {
-    match dice.below(12) {
-        0 => size.saturating_mul(3).saturating_add(dice.index(size)),
-        1 => dice.index(1_000_000),
-        2..=4 => 0,
-        5..=7 => size,
-        _ => size.saturating_mul(2).saturating_add(dice.index(size)),
-    }
-}
-
-fn reading(dice: &mut Dice) -> u64 {
-    match dice.below(4) {
-        0 => dice.roll(),
-        _ => dice.below(3),
-    }
-}
-
-fn node_number(dice: &mut Dice) -> usize {
-    match dice.below(6) {
-        0 => dice.index(100),
-        _ => dice.index(20),
-    }
-}
-
-// A call of a sort, as the weights list them.
-pub fn any_call(dice: &mut Dice, sort: usize, key: Words) -> Call {
-    match sort {
-        0 => Call::Put {
-            key,
-            reading: reading(dice),
-        },
-        1 => Call::Change {
-            key,
-            reading: reading(dice),
-        },
-        2 => Call::Remove { key },
-        3 => Call::Find { key },
-        4 => Call::Next { key },
-        5 => Call::Pairs,
-        _ => Call::Node {
-            number: node_number(dice),
-        },
-    }
-}
-
-pub fn any_cut(dice: &mut Dice, size: usize, steps: u64) -> Call {
-    Call::Cut {
-        from: choice(dice, size),
-        steps,
     }
 }
 
@@ -284,7 +140,7 @@ fn run(alloc: Global, dice: &mut Dice, size: usize) -> Result<Vec<u64>, AllocErr
 }
 
 // Makes one word in so many another one.
-fn unsettle(dice: &mut Dice, words: &mut Vec<u64>, rarity: u64) {
+pub fn unsettle(dice: &mut Dice, words: &mut Vec<u64>, rarity: u64) {
     for word in words.iter_mut() {
         if dice.once_in(rarity) {
             *word = dice.below(4);

@@ -211,6 +211,19 @@ impl Model {
         }
     }
 
+    // The memory refused a step: a call that lacked power waits.
+    fn stop(&mut self, number: u64, after: Book, commit: (usize, u64)) {
+        self.state = State::Dark;
+        if number == NO_POWER {
+            let (at, word) = commit;
+            self.waiting = Some(Waiting {
+                book: after,
+                at,
+                word,
+            });
+        }
+    }
+
     // The rest of a call that has passed the checks of its key.
     fn write(
         &mut self,
@@ -232,15 +245,7 @@ impl Model {
         } = plan;
         let (steps, refused) = self.memory.take(steps.as_slice());
         if let Some(number) = refused {
-            self.state = State::Dark;
-            if number == NO_POWER {
-                let (at, word) = commit;
-                self.waiting = Some(Waiting {
-                    book: after,
-                    at,
-                    word,
-                });
-            }
+            self.stop(number, after, commit);
             return Ok(halted(number, steps));
         }
         if steps != cost {
