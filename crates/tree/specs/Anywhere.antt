@@ -68,6 +68,6 @@ pub record Answered (m : Words) (s : State) (last : Option ℕ) (e : Ending) : T
   pub refused : (h : Halt) → e.answer ≡ Err h → Stopped m s last h e ⊎ Declined m s last h e
 
 -- The steps that a remove tells.
-abbrev pub steps_told : Result Removed Halt → Result ℕ Halt
-steps_told (Ok r) = Ok r.steps
-steps_told (Err h) = Err h
+abbrev pub removed_steps : Result Removed Halt → Result ℕ Halt
+removed_steps (Ok r) = Ok r.steps
+removed_steps (Err h) = Err h

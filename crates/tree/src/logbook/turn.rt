@@ -11,7 +11,7 @@ ghost use Rattle.plans.specs.declared.deed.Deed.TheVariants.{Change, Put, Remove
 ghost use Rattle.plans.specs.Plan.{pairs_of, wish as wish_of};
 ghost use Rattle.index.specs.declared.table.Index.{Index};
 ghost use Rattle.tree.specs.declared.logbook.State.TheVariants.{Open};
-ghost use Rattle.tree.specs.Anywhere.{Answered, steps_told};
+ghost use Rattle.tree.specs.Anywhere.{Answered, removed_steps};
 ghost use Rattle.tree.specs.Shape.{shape_of};
 ghost use Rattle.tree.specs.Sound.{Sound};
 ghost use Rattle.tree.specs.Turning.{Working, call_ending, changed, ending, RemovalEnds, told, wished};
@@ -143,7 +143,7 @@ impl<K: Key, M: Memory> Logbook<K, M> {
     pub fn remove(&mut self, key: &K) -> Result<Removed, Halt>
         ensures ending { Sound (in_words K.Key.kind) (M.Memory.meaning self.old.memory).live self.old.state → RemovalEnds (M.Memory.meaning self.new.memory) (shape_of self.new.state) self.new.taken result (lookup (K.Key.kind.form key.now) (book (in_words K.Key.kind) (M.Memory.meaning self.old.memory).live)) (call_ending (in_words K.Key.kind) (M.Memory.meaning self.old.memory) self.old.state self.old.taken (Remove (K.Key.kind.form key.now))) }
         ensures sound { Sound (in_words K.Key.kind) (M.Memory.meaning self.old.memory).live self.old.state → Sound (in_words K.Key.kind) (M.Memory.meaning self.new.memory).live self.new.state }
-        ensures any { Answered (M.Memory.meaning self.old.memory) self.old.state self.old.taken (ending (steps_told result) (M.Memory.meaning self.new.memory) (shape_of self.new.state) self.new.taken) }
+        ensures any { Answered (M.Memory.meaning self.old.memory) self.old.state self.old.taken (ending (removed_steps result) (M.Memory.meaning self.new.memory) (shape_of self.new.state) self.new.taken) }
     {
         let key = key.pack();
         let done = self.turn(Deed::Remove { key })?;
