@@ -1,6 +1,6 @@
 ghost use Rattle.std.specs.Prelude.{◌≡◌, ℕ};
 ghost use Rattle.makes.specs.Makes.{buffered_lawful, buffered_rooted, buffered_words, shared, unshared};
-ghost use Rattle.makes.specs.Probes.{poke_answer, poked};
+ghost use Rattle.makes.specs.Probes.{poke_answer, poked, supplied};
 ghost use Rattle.memory.specs.Meaning.{Freely, after_flush, after_settle, after_store, flush_answer, read_answer, settle_answer, store_answer};
 
 use crate::probe::Probe;
@@ -182,5 +182,14 @@ impl Probe for Buffered<'_> {
         self.live[at] = word;
         self.firm[at] = word;
         Ok(())
+    }
+
+    fn supply(&mut self, steps: u64)
+        ensures after { buffered_words self.new.live.now self.new.firm.now self.new.steps ≡ supplied (buffered_words self.old.live.now self.old.firm.now self.old.steps) steps }
+        ensures lent { (self.new.live.ghost_name ≡ self.old.live.ghost_name) × (self.new.firm.ghost_name ≡ self.old.firm.ghost_name) }
+        ensures rest { unshared self.new.live.now self.new.firm.now ≡ unshared self.old.live.now self.old.firm.now }
+    {
+        let Buffered { steps: left, .. } = self;
+        *left = steps;
     }
 }

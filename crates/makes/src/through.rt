@@ -1,7 +1,7 @@
 ghost use Rattle.std.specs.Prelude.{◌≡◌, ℕ};
 ghost use Rattle.memory.specs.Meaning.{Freely, after_flush, after_settle, after_store, flush_answer, read_answer, settle_answer, store_answer};
 ghost use Rattle.makes.specs.Makes.{through_lawful, through_rooted, through_words};
-ghost use Rattle.makes.specs.Probes.{poke_answer, poked};
+ghost use Rattle.makes.specs.Probes.{poke_answer, poked, supplied};
 
 use crate::probe::Probe;
 use memory::{Memory, Settle};
@@ -115,4 +115,10 @@ impl Probe for Through<'_> {
     {
         self.store(at, word)
     }
+
+    // They stay endless.
+    fn supply(&mut self, _steps: u64)
+        ensures after { through_words self.new.run.now ≡ supplied (through_words self.old.run.now) _steps }
+        ensures lent { self.new.run.ghost_name ≡ self.old.run.ghost_name }
+    {}
 }

@@ -1,3 +1,5 @@
 pub mod AnswerLaws
 pub mod AskLaws
+pub mod MixLaws
+pub mod OpenedLaws
 pub mod PileLaws

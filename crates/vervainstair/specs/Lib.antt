@@ -5,4 +5,10 @@ pub mod Cuts
 pub mod Desks
 pub mod Forms
 pub mod Making
+pub mod Mixes
+pub mod Openings
+pub mod Parts
 pub mod Piles
+pub mod Places
+pub mod Tasks
+pub mod Verdicts

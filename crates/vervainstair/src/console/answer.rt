@@ -109,18 +109,23 @@ fn write_told<W: Write>(out: &mut W, told: &Told) -> io::Result<()> {
     }
 }
 
-// With a bad link stands its leaf, with a bad leaf its number and the slot.
-fn write_refused<W: Write>(out: &mut W, fault: &Fault) -> io::Result<()> {
+// A refusal without the end of its line: with a bad link stands its leaf, with a bad leaf its number and the slot.
+pub fn write_fault<W: Write>(out: &mut W, fault: &Fault) -> io::Result<()> {
     let Fault {
         refusal,
         leaf,
         slot,
     } = *fault;
     match refusal {
-        Refusal::BadLink => writeln!(out, "refused {refusal} {leaf}"),
-        Refusal::BadLeaf => writeln!(out, "refused {refusal} {leaf} {slot}"),
-        _ => writeln!(out, "refused {refusal}"),
+        Refusal::BadLink => write!(out, "refused {refusal} {leaf}"),
+        Refusal::BadLeaf => write!(out, "refused {refusal} {leaf} {slot}"),
+        _ => write!(out, "refused {refusal}"),
     }
+}
+
+fn write_refused<W: Write>(out: &mut W, fault: &Fault) -> io::Result<()> {
+    write_fault(out, fault)?;
+    writeln!(out, "")
 }
 
 // Where the memory or a dark logbook refused, the steps are told.

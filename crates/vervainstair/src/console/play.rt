@@ -11,7 +11,7 @@ use super::runs::{Runs, choice_run, make_runs};
 use crate::pile::{piled, unpile};
 use crate::script::line::{Keeps, Kind, Line, Probing, Setting};
 use crate::script::reader::Script;
-use crate::script::wrong::Wrong;
+use crate::script::wrong::{Mistake, Wrong};
 use fixed_vec::FixedVec;
 use layers::chosen::Sort;
 use makes::buffered::Buffered;
@@ -21,24 +21,25 @@ use memory::Settle;
 use std::alloc::Global;
 use std::io::{self, BufRead, Write};
 
-// Where lines come from and answers go, and the kind of key named last.
+// Where lines come from and answers go, the kind of key named last, and the first line that is no call.
 #[derive(Drop)]
 pub struct Console<R, W> {
     pub alloc: Global,
     pub script: Script<R>,
     pub out: W,
     pub kind: Option<Kind>,
+    pub mistake: Option<Mistake>,
 }
 
 // The logbook of a memory, and the layers that it lies on.
 #[derive(Drop)]
-struct Desk<B> {
-    book: Book<B>,
-    layers: FixedVec<Sort, 3>,
+pub struct Desk<B> {
+    pub book: Book<B>,
+    pub layers: FixedVec<Sort, 3>,
 }
 
 impl<B: Probe> Desk<B> {
-    fn new(bottom: B, kind: Option<Kind>) -> Self {
+    pub fn new(bottom: B, kind: Option<Kind>) -> Self {
         let layers = FixedVec::new(Sort::Hides(0));
         let book = Book::new(piled(bottom, layers.as_slice()), kind);
         Desk { book, layers }
@@ -77,8 +78,25 @@ impl<B: Probe> Desk<B> {
 }
 
 impl<R: BufRead, W: Write> Console<R, W> {
+    pub fn new(alloc: Global, reader: R, out: W) -> Self {
+        Console {
+            alloc,
+            script: Script::new(alloc, reader),
+            out,
+            kind: None,
+            mistake: None,
+        }
+    }
+
     fn answer(&mut self, answer: &Result<Told, Trouble>) -> io::Result<()> {
-        write_answer(&mut self.out, self.script.number(), answer)?;
+        let line = self.script.number();
+        if let (Err(Trouble::Wrong(wrong)), None) = (answer, self.mistake) {
+            self.mistake = Some(Mistake {
+                line,
+                wrong: *wrong,
+            });
+        }
+        write_answer(&mut self.out, line, answer)?;
         self.out.flush()
     }
 
@@ -137,8 +155,11 @@ impl<R: BufRead, W: Write> Console<R, W> {
         self.answer(&answer)
     }
 
-    // Plays the lines over one memory, up to the line that names another one, whose runs are told; nothing at the end of the script.
-    fn over<B: Probe + Settle + Drop>(&mut self, bottom: B) -> io::Result<Option<Runs>> {
+    // Plays the lines over one memory, up to the line that names another one, whose runs are told; none at the end of the script.
+    pub fn over<B: Probe + Settle + Drop>(
+        &mut self,
+        bottom: B,
+    ) -> io::Result<(Desk<B>, Option<Runs>)> {
         let mut desk = Desk::new(bottom, self.kind);
         for _ in 0..u64::MAX {
             match self.script.next()? {
@@ -147,7 +168,7 @@ impl<R: BufRead, W: Write> Console<R, W> {
                 Some(Ok(Line::Memory(make))) => {
                     let runs = self.named(make_runs(self.alloc, make))?;
                     if runs.is_some() {
-                        return Ok(runs);
+                        return Ok((desk, runs));
                     }
                 }
                 Some(Ok(Line::Setting(setting))) => {
@@ -163,11 +184,11 @@ impl<R: BufRead, W: Write> Console<R, W> {
                 }
             }
         }
-        Ok(None)
+        Ok((desk, None))
     }
 
     // Plays the lines before the first memory.
-    fn before(&mut self) -> io::Result<Option<Runs>> {
+    pub fn before(&mut self) -> io::Result<Option<Runs>> {
         for _ in 0..u64::MAX {
             match self.script.next()? {
                 None => break,
@@ -188,22 +209,46 @@ impl<R: BufRead, W: Write> Console<R, W> {
         Ok(None)
     }
 
-    // Plays the whole script.
-    pub fn play(&mut self) -> io::Result<()> {
-        let mut named = self.before()?;
-        for _ in 0..u64::MAX {
-            named = match named {
-                None => break,
-                Some(Runs::Through { mut run }) => self.over(Through::new(&mut run))?,
-                Some(
-                    Runs::Buffered {
-                        mut live,
-                        mut firm,
-                        steps,
-                    },
-                ) => self.over(Buffered::new(&mut live, &mut firm, steps))?,
-            };
+    // Plays the lines over one memory; tells the runs that are named next, and an image of the words that are shown in the end.
+    fn over_to_end<B: Probe + Settle + Drop>(
+        &mut self,
+        bottom: B,
+        to_image: bool,
+    ) -> io::Result<(Option<Runs>, Option<Vec<u8>>)> {
+        let (mut desk, next) = self.over(bottom)?;
+        if !to_image {
+            return Ok((next, None));
         }
-        Ok(())
+        Ok((next, Some(desk.book.octets(self.alloc)?)))
+    }
+
+    fn over_runs(
+        &mut self,
+        runs: Runs,
+        to_image: bool,
+    ) -> io::Result<(Option<Runs>, Option<Vec<u8>>)> {
+        match runs {
+            Runs::Through { mut run } => self.over_to_end(Through::new(&mut run), to_image),
+            Runs::Buffered {
+                mut live,
+                mut firm,
+                steps,
+            } => self.over_to_end(Buffered::new(&mut live, &mut firm, steps), to_image),
+        }
+    }
+
+    // Plays the whole script; tells an image of the words that are shown in the end where it is asked for and there is a memory.
+    pub fn play(&mut self, to_image: bool) -> io::Result<Option<Vec<u8>>> {
+        let mut named = self.before()?;
+        let mut image = None;
+        for _ in 0..u64::MAX {
+            let Some(runs) = named else {
+                break;
+            };
+            let (next, octets) = self.over_runs(runs, to_image)?;
+            named = next;
+            image = octets;
+        }
+        Ok(image)
     }
 }

@@ -90,3 +90,10 @@ impl<R: BufRead> Script<R> {
         Ok(None)
     }
 }
+
+impl<'a> Script<&'a [u8]> {
+    // The octets that are still to be read.
+    pub fn left(&self) -> &'a [u8] {
+        self.reader
+    }
+}

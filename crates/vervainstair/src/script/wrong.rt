@@ -1,4 +1,4 @@
-// Why a line of a script is no call.
+// Why a line of a script is no call, or not one to be swept.
 use std::fmt;
 
 #[derive(Clone, Copy, PartialEq, Eq, Debug)]
@@ -19,6 +19,18 @@ pub enum Wrong {
     OtherKind,
     FourthLayer,
     TooManyWords,
+    // of the last line, where it is to be swept
+    NotSwept,
+    EndlessSteps,
+    NotSettled,
+    TooMixed,
+}
+
+// A line of a script that is no call, counted from 1.
+#[derive(Clone, Copy)]
+pub struct Mistake {
+    pub line: u64,
+    pub wrong: Wrong,
 }
 
 impl Wrong {
@@ -42,6 +54,11 @@ impl Wrong {
             Wrong::OtherKind => "this is a key of another kind",
             Wrong::FourthLayer => "there are three layers already",
             Wrong::TooManyWords => "a memory of so many words is not to be had",
+            Wrong::NotSwept => "a sweep needs a put, change, remove or format as the last line",
+            Wrong::EndlessSteps =>
+                "a sweep needs a buffered memory: steps of a through one do not end",
+            Wrong::NotSettled => "a sweep needs a memory that is settled before the last line",
+            Wrong::TooMixed => "more than eight words are unsettled where the call is cut off",
         }
     }
 }
@@ -49,5 +66,12 @@ impl Wrong {
 impl fmt::Display for Wrong {
     fn fmt<W: fmt::Write>(&self, f: &mut fmt::Formatter<W>) -> fmt::Result {
         f.write_str(self.text())
+    }
+}
+
+impl fmt::Display for Mistake {
+    fn fmt<W: fmt::Write>(&self, f: &mut fmt::Formatter<W>) -> fmt::Result {
+        let Mistake { line, wrong } = *self;
+        write!(f, "error line {line}: {wrong}")
     }
 }
