@@ -1,5 +1,5 @@
 -- A list in the front of an array, after an item is put in or taken out.
-use Rattle.std.proofs.Common.{◌≡◌, ℕ, suc, ◌+◌, ◌-◌, ◌<◌, ◌≤◌, min, List, [], ◌∷◌, ◌++◌, length, take, drop, sym, ap, ◌∙◌, ⊎_elim, append-nil, length-take-le, take-take, take-add, take_all, drop_at, length-take, length-append, length-drop, arith}
+use Rattle.std.proofs.Common.{◌≡◌, ℕ, suc, ◌+◌, ◌-◌, ◌<◌, ◌≤◌, min, List, ◌∷◌, ◌++◌, length, take, drop, sym, ap, ◌∙◌, ⊎_elim, append-nil, length-take-le, take-take, take-add, take_all, drop_at, length-append, length-drop, arith}
 use native.Mathlib.Nat.{min-eq_left}
 use Rattle.std.proofs.Math.ListN.{set}
 use Rattle.std.proofs.Math.Seq.{paste, take-set-lt, set_split}

@@ -1,5 +1,5 @@
 // What a fixed list does.
-ghost use Rattle.std.specs.Prelude.{◌≡◌, ◌≤◌, ◌<◌, [], ◌∷◌, length, slice_get, slice_set, take};
+ghost use Rattle.std.specs.Prelude.{◌≡◌, ◌≤◌, ◌<◌, [], ◌∷◌, length, slice_get, slice_set};
 ghost use Rattle.std.specs.List.{remove};
 ghost use Rattle.fixed_vec.specs.Items.{inserted, items, joined, room};
 
@@ -25,13 +25,6 @@ impl<T: Copy, const N: usize> FixedVec<T, N> {
         ensures { items self.new ≡ [] }
     {
         self.len = 0;
-    }
-
-    // Keeps at most so many of the first items.
-    pub fn truncate(&mut self, len: usize)
-        ensures { items self.new ≡ take len (items self.old) }
-    {
-        self.len = self.len.min(len);
     }
 
     pub fn len(&self) -> usize
