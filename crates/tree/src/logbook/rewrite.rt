@@ -20,8 +20,8 @@ ghost use Rattle.tree.specs.Walk.{leaf_of, past_of};
 use super::Logbook;
 use super::adopt::Regroup;
 use super::carry::Halt;
+use super::free::next_free;
 use super::place::{Home, leaf_at};
-use fixed_vec::FixedVec;
 use index::node::Entry;
 use index::table::{Index, Place};
 use keys::Key;
@@ -31,20 +31,8 @@ use leaves::leaf::{Pair, Run};
 use memory::Memory;
 use plans::decision::{Decision, decide};
 use plans::deed::Call;
-use plans::free::next_free;
 use refusal::Refusal;
 use rewrites::{rewrite_one, rewrite_two};
-
-// The leaves in use: one that is taken for this rewrite, if there is one, and those of the index.
-fn used(index: &Index, also: &[usize]) -> FixedVec<usize, 65>
-    requires { length also.now ≤ 1 }
-    ensures { items result ≡ also.now ++ numbers (listed index.now) }
-{
-    let mut all = FixedVec::<usize, 65>::new(0);
-    all.extend_from_slice(also).unwrap();
-    all.extend_from_slice(index.numbers().as_slice()).unwrap();
-    all
-}
 
 // The word that links the leaf at a place.
 fn link_word(index: &Index, place: Place) -> usize
@@ -102,11 +90,10 @@ impl<K: Key, M: Memory> Logbook<K, M> {
     {
         let leaves = self.leaves()?;
         let index = self.index()?;
-        let linked = used(index, &[]);
         Ok(New {
             leaves,
-            linked: linked.len(),
-            leaf: next_free(leaves, linked.as_slice(), self.taken).unwrap_or(0),
+            linked: index.len(),
+            leaf: next_free(index, &[], leaves, self.taken).unwrap_or(0),
             at: link_word(index, place),
         })
     }
@@ -116,8 +103,7 @@ impl<K: Key, M: Memory> Logbook<K, M> {
         ensures { (x : AnIndex) → self.now.state ≡ Open x → result ≡ Ok (taken new.now.leaves (new.now.leaf ∷ numbers (listed x)) (Some new.now.leaf)) }
     {
         let index = self.index()?;
-        let linked = used(index, &[new.leaf]);
-        let second = next_free(new.leaves, linked.as_slice(), Some(new.leaf));
+        let second = next_free(index, &[new.leaf], new.leaves, Some(new.leaf));
         Ok(second.unwrap_or(0))
     }
 

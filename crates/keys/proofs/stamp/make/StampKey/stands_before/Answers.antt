@@ -1,5 +1,5 @@
 use Rattle.std.proofs.Common.{ℕ, sym, ap, ◌∙◌}
-use Rattle.std.specs.Prelude.{◌+◌, ◌*◌, is_some, nat_lt}
+use Rattle.std.specs.Prelude.{is_some, nat_lt}
 use Rattle.keys.specs.InWords.{pair_before}
 use Rattle.keys.specs.Stamps.{stamp_kind}
 use Rattle.keys.specs.StampLaws.{formed}
