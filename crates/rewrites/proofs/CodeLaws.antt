@@ -1,9 +1,6 @@
 -- The words of a leaf's pairs in lines of eight, and the line writes of a leaf in two parts.
-use Rattle.std.proofs.Common.{◌≡◌, ℕ, suc, ◌+◌, ◌*◌, ◌<◌, ◌≤◌, List, [], ◌∷◌, ◌++◌, length, length-append, length-take, min, take, true, cond, leb, Ok, Err, Result, refl, ap, ◌∙◌, arith, rules}
+use Rattle.std.proofs.Common.{◌≡◌, ℕ, suc, ◌+◌, ◌*◌, ◌<◌, ◌≤◌, List, [], ◌∷◌, ◌++◌, length, length-append, get_or, min, Ok, Err, refl, ap, ◌∙◌, arith, rules}
 use Rattle.std.specs.Prelude.{flat_map}
-use Rattle.std.specs.Result.{IsOk}
-use Rattle.fixed_vec.specs.declared.list.Full.{Full}
-use Rattle.std.proofs.lemmas.Bool.{le-leb}
 use Rattle.refusal.specs.declared.Refusal.{Refusal}
 use Rattle.memory.specs.Meaning.{Words}
 use Rattle.leaves.specs.declared.leaf.Pair.{Pair}
@@ -16,12 +13,12 @@ pub length_words : (ps : List Pair) → length (flat_map pair_words ps) ≡ 4 * 
 length_words [] = omega arith
 length_words (p ∷ ps) = omega (arith, length_words ps)
 
--- A list of eight words has room for the words of one pair more.
-pub words_room : {r : Result (Unit {0}) Full} {ws : List ℕ} (ps : List Pair) (i : ℕ) → r ≡ cond (leb (length ws + 4) 8) (Ok tt) (Err (record {}))
-    → ws ≡ flat_map pair_words (take i ps) → i < length ps → length ps ≤ 2 → IsOk r
-words_room {ws = ws} ps i answer is front few =
-    let full : leb (length ws + 4) 8 ≡ true = le-leb (length ws + 4) 8 (omega (arith, ap length is, length_words (take i ps), length-take i ps)) in
-    search rules
+-- The words of two pairs.
+pub two_words : (ps : List Pair) (d : Pair) → length ps ≡ 2 → flat_map pair_words ps ≡ pair_words (get_or ps 0 d) ++ pair_words (get_or ps 1 d)
+two_words [] d e = absurd (omega arith)
+two_words (p ∷ []) d e = absurd (omega arith)
+two_words (p ∷ q ∷ []) d e = refl
+two_words (p ∷ q ∷ r ∷ ps) d e = absurd (omega arith)
 
 words_in_lines : (k s : ℕ) (ps : List Pair) → rows (lines_for (length (flat_map pair_words ps))) (slot_at k s) (flat_map pair_words ps) ≡ pair_lines k s ps
 words_in_lines k s [] = refl
