@@ -1,7 +1,4 @@
-use Rattle.std.proofs.Common.{◌≡◌, ◌≤◌, length, slice_set, ap, ◌∙◌, arith}
-use Rattle.index.specs.Meaning.{grouped}
-use Rattle.index.specs.Nodes.{items}
-use Rattle.index.specs.Search.{concat}
+use Rattle.std.proofs.Common.{length, ap, ◌∙◌, arith}
 use Rattle.index.specs.Shape.{singles}
 use Rattle.index.proofs.table.Index.rebuild.Goals as goal
 

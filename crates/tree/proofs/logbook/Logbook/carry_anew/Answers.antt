@@ -1,5 +1,4 @@
 use Rattle.std.proofs.Common.{[], Ok, Err, sym, ap, ◌∙◌}
-use Rattle.fixed_vec.specs.Items.{items}
 use Rattle.keys.specs.InWords.{in_words}
 use Rattle.keys.proofs.WordLaws.{in_words_ordered}
 use Rattle.leaves.specs.Layout.{count_of}

@@ -1,10 +1,9 @@
-use Rattle.std.proofs.Common.{◌≡◌, Ok, Err, refl, sym, ap, ◌∙◌, subst}
+use Rattle.std.proofs.Common.{◌≡◌, Err, refl, sym, ap, ◌∙◌, subst}
 use Rattle.std.proofs.lemmas.Result.{err_from_is_err_and}
-use Rattle.fixed_vec.specs.Items.{items}
 use Rattle.keys.specs.InWords.{in_words}
 use Rattle.keys.proofs.WordLaws.{in_words_ordered}
 use Rattle.leaves.specs.Layout.{count_of, elements as elements_of}
-use Rattle.leaves.specs.Pairs.{latest, lookup}
+use Rattle.leaves.specs.Pairs.{lookup}
 use Rattle.plans.specs.Deeds.{key_of}
 use Rattle.plans.specs.Plan.{declined, pairs_of, wish}
 use Rattle.index.specs.declared.table.Index.{Index}

@@ -1,9 +1,7 @@
-use Rattle.std.proofs.Common.{sym, ap, ◌∙◌, ◌||◌, true, false}
+use Rattle.std.proofs.Common.{sym, ap, ◌∙◌, ◌||◌}
 use Rattle.index.specs.Meaning.{listed}
-use Rattle.index.specs.Nodes.{holds, numbers}
-use Rattle.leaves.specs.Opening.{member}
-use Rattle.plans.proofs.FreeLaws.{member_is}
-use Rattle.tree.proofs.UsedLaws.{held_is, used_is}
+use Rattle.index.specs.Nodes.{holds}
+use Rattle.tree.proofs.UsedLaws.{used_is}
 use Rattle.tree.proofs.logbook.free.is_used.Goals as goal
 
 pub returns-then-contains : goal.returns-then-contains
