@@ -1,6 +1,7 @@
 // What a fixed list does.
-ghost use Rattle.std.specs.Prelude.{◌≡◌, ◌≤◌, ◌<◌, [], ◌∷◌, length, slice_get, slice_set, take};
-ghost use Rattle.fixed_vec.specs.Items.{items, joined, room};
+ghost use Rattle.std.specs.Prelude.{◌≡◌, ◌≤◌, ◌<◌, [], ◌∷◌, length, slice_get, slice_set};
+ghost use Rattle.std.specs.List.{remove};
+ghost use Rattle.fixed_vec.specs.Items.{inserted, items, joined, room};
 
 use crate::FixedVec;
 
@@ -24,13 +25,6 @@ impl<T: Copy, const N: usize> FixedVec<T, N> {
         ensures { items self.new ≡ [] }
     {
         self.len = 0;
-    }
-
-    // Keeps at most so many of the first items.
-    pub fn truncate(&mut self, len: usize)
-        ensures { items self.new ≡ take len (items self.old) }
-    {
-        self.len = self.len.min(len);
     }
 
     pub fn len(&self) -> usize
@@ -74,6 +68,36 @@ impl<T: Copy, const N: usize> FixedVec<T, N> {
         slots[self.len..end].copy_from_slice(more);
         self.len = end;
         Ok(())
+    }
+
+    // One item more, before the one at a place, or after all where there is none; refused where there is no room.
+    pub fn insert(&mut self, at: usize, item: T) -> Result<(), Full>
+        ensures answer { result ≡ room N (items self.old) (item ∷ []) }
+        ensures list { items self.new ≡ inserted N (items self.old) at item }
+    {
+        if self.len >= N {
+            return Err(Full);
+        }
+        let len = self.len;
+        let place = at.min(len);
+        let slots = &mut self.slots[..];
+        slots.copy_within(place..len, place + 1);
+        slots[place] = item;
+        self.len = len + 1;
+        Ok(())
+    }
+
+    // Takes the item at a place out; nothing where there is none.
+    pub fn remove(&mut self, at: usize)
+        ensures { items self.new ≡ remove (items self.old) at }
+    {
+        let len = self.len;
+        if at >= len {
+            return;
+        }
+        let slots = &mut self.slots[..];
+        slots.copy_within(at + 1..len, at);
+        self.len = len - 1;
     }
 
     // Another item in the place of one, which is answered; nothing where there is none.

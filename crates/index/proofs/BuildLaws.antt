@@ -1,8 +1,8 @@
 -- Each node of an index built anew.
-use Rattle.std.proofs.Common.{◌≡◌, ℕ, zero, suc, ◌+◌, ◌-◌, ◌*◌, ◌<◌, ◌≤◌, min, true, cond, ltb, leb, List, [], ◌∷◌, ◌++◌, map, length, get_or, take, drop, sym, refl, ap, ◌∙◌, subst, ◌≢◌, ⊎_elim, append_assoc, append-nil, arith, length-append, length-drop, length-take, get_or-drop, take_all, get_or-take, set, get_or-set_other, drop-drop, ext_get_or}
+use Rattle.std.proofs.Common.{◌≡◌, ℕ, zero, suc, ◌+◌, ◌-◌, ◌*◌, ◌<◌, ◌≤◌, min, true, cond, ltb, leb, List, [], ◌∷◌, ◌++◌, map, length, get_or, take, drop, sym, refl, ap, ◌∙◌, ⊎_elim, append_assoc, append-nil, arith, length-append, length-drop, length-take, get_or-drop, take_all, get_or-take, set, get_or-set_other, drop-drop, ext_get_or}
 use lib.ListN.{length-map}
 use mathlib.Core.List.{map-append}
-use Rattle.std.proofs.lemmas.Bool.{cond-true, cond-false, cond_both, le-ltb, lt-ltb, le-leb, lt-leb, eq-eqb, ne_eqb, cases_lt, and_parts, and_from, eqb-true, cases_eq, false≢true}
+use Rattle.std.proofs.lemmas.Bool.{cond-true, cond-false, cond_both, le-ltb, lt-ltb, le-leb, lt-leb, eq-eqb, ne_eqb, cases_lt, and_parts, and_from, eqb-true, false≢true}
 use Rattle.std.proofs.lemmas.List.{drop_all, drop_at, take_at, map_more, nil_from_length, get_or-map, take-map, drop-map}
 use Rattle.std.proofs.lemmas.Grind.{get_or-set_at}
 use lib.Seq.{map-set}

@@ -1,10 +1,12 @@
 -- The numbers of all leaves and the bounds between them, listed node by node, and what a change of a leaf does to them.
-use Rattle.std.proofs.Common.{◌≡◌, ℕ, zero, suc, ◌+◌, ◌<◌, ◌≤◌, List, [], ◌∷◌, ◌++◌, length, get_or, take, drop, sym, refl, ap, ◌∙◌, append_assoc, length-append, arith}
+use Rattle.std.proofs.Common.{◌≡◌, ℕ, zero, suc, ◌+◌, ◌<◌, ◌≤◌, true, false, ◌||◌, eqb, List, [], ◌∷◌, ◌++◌, map, length, get_or, take, drop, sym, refl, ap, ◌∙◌, append_assoc, length-append, arith}
 use lib.ListN.{length-map}
 use Rattle.std.proofs.lemmas.List.{drop_more, map-append}
+use Rattle.std.specs.List.{list_any}
 use Rattle.index.specs.declared.node.Entry.{Entry}
+use Rattle.index.specs.declared.node.Node.{Node}
 use Rattle.index.specs.declared.table.Index.{Index}
-use Rattle.index.specs.Nodes.{bounds, numbers, parted, renamed, joined}
+use Rattle.index.specs.Nodes.{bounds, holds, items, numbers, parted, renamed, joined}
 use Rattle.index.specs.Search.{concat, front}
 use Rattle.index.specs.Meaning.{grouped, listed}
 use Rattle.index.proofs.ChangeLaws.{bounds_renamed, length_parted}
@@ -85,3 +87,15 @@ module _ (leaf : ℕ) where
       let old = front_bounds e es (omega arith) in
       let z : suc n + 1 ≡ suc (n + 1) = omega arith in
       rw (new, old, z) (ap (λ bs. e.bound ∷ bs) (front_joined es n (omega arith)))
+
+-- A leaf is in a list of two parts where it is in one of them.
+holds_append : (leaf : ℕ) (es fs : List Entry) → holds leaf (es ++ fs) ≡ (holds leaf es || holds leaf fs)
+holds_append leaf [] fs = refl
+holds_append leaf (e ∷ es) fs =
+    elim (eqb e.to leaf) as (λ b. (b || holds leaf (es ++ fs)) ≡ ((b || holds leaf es) || holds leaf fs)) [ true ↦ refl | false ↦ holds_append leaf es fs ]
+
+-- A leaf is in the list of all where it is in one of the nodes.
+pub holds_grouped : (leaf : ℕ) (nodes : List Node) → list_any (λ (n : Node). holds leaf (items n)) nodes ≡ holds leaf (concat (map items nodes))
+holds_grouped leaf [] = refl
+holds_grouped leaf (n ∷ nodes) =
+    ap (λ b. holds leaf (items n) || b) (holds_grouped leaf nodes) ∙ sym (holds_append leaf (items n) (concat (map items nodes)))

@@ -1,5 +1,5 @@
 -- The order of stamps by their words as they stand.
-use Rattle.std.specs.Prelude.{◌≡◌, ℕ, ◌/◌, ◌%◌, Bool, true, false, T, is_some, Option}
+use Rattle.std.specs.Prelude.{◌≡◌, ℕ, ◌/◌, ◌%◌, Bool, true, false, T, is_some}
 use Rattle.std.proofs.Common.{sym, arith}
 use Rattle.std.proofs.lemmas.Bool.{false≢true}
 use Rattle.std.proofs.lemmas.Bool.Decides.{nat_tests}
@@ -22,3 +22,9 @@ module _ {K : Type 0} (before : K → K → Bool) (rest : Bool) {r : Bool} where
   made_neither false false f g h k e = e
   made_neither false true f g h k e = let z : false ≡ true = sym k in absurd (false≢true z)
   made_neither true w f g h k e = let z : false ≡ true = sym h in absurd (false≢true z)
+
+  -- Words that are no key do not stand before a key.
+  pub made_first : (v w : Bool) (f : T v → K) (g : T w → K) → is_some (made v f) ≡ false → is_some (made w g) ≡ true → r ≡ false → r ≡ keys_first before (made v f) (made w g) rest
+  made_first false true f g h k e = e
+  made_first false false f g h k e = absurd (false≢true k)
+  made_first true w f g h k e = let z : false ≡ true = sym h in absurd (false≢true z)

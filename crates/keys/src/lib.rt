@@ -44,6 +44,13 @@ pub trait Key: Copy {
         }
     }
 
+    // Whether a pair of words stands before a key.
+    fn stands_before(words: (u64, u64), key: &Self) -> bool
+        ensures { result ≡ (in_words kind).before words (kind.form key.now) }
+    {
+        Self::pair_before(words, key.pack())
+    }
+
     ghost ordered: { Ordered kind };
 
     ghost formed: { Formed kind };

@@ -1,11 +1,18 @@
 -- The pairs of a leaf ascend, for every content; the pairs of a memory that opens ascend from leaf to leaf.
-use Rattle.std.proofs.Common.{◌≡◌, ℕ, zero, suc, ◌<◌, true, not, eqb, List, [], ◌∷◌, subst, arith}
+use Rattle.std.proofs.Common.{◌≡◌, ℕ, zero, suc, ◌<◌, true, not, eqb, List, [], ◌∷◌, length, get_or, subst, arith}
 use Rattle.std.proofs.lemmas.Bool.{cond_both}
 use Rattle.keys.specs.InWords.{WordKind, WordOrdered}
 use Rattle.leaves.specs.declared.leaf.Pair.{Pair}
 use Rattle.leaves.specs.Layout.{element}
-use Rattle.leaves.specs.Pairs.{equal, insert, delete, pairs}
+use Rattle.leaves.specs.declared.leaf.Element.{Element}
+use Rattle.leaves.specs.Pairs.{equal, insert, delete, applied, folded, pairs}
 use Rattle.leaves.specs.Ascent.{Each, Ascending}
+
+-- what holds of every key holds of the one at a place
+pub each_at : (P : ℕ × ℕ → Type 0) (ps : List Pair) (i : ℕ) (d : Pair) → Each P ps → i < length ps → P (get_or ps i d).key
+each_at P [] i d h lt = absurd (omega arith)
+each_at P (p ∷ ps) zero d h lt = h.0
+each_at P (p ∷ ps) (suc i) d h lt = each_at P ps i d h.1 (omega arith)
 
 module _ (o : WordKind) where
   pub each_map : (P Q : ℕ × ℕ → Type 0) → ((k : ℕ × ℕ) → P k → Q k) → (ps : List Pair) → Each P ps → Each Q ps
@@ -49,3 +56,10 @@ module _ (o : WordKind) (ordered : WordOrdered o) where
   ascending_pairs m l zero = tt
   ascending_pairs m l (suc n) =
       cond_both (eqb (element m l n).sign 1) _ _ (Ascending o) (λ _. ascending_insert _ (pairs o m l n) (ascending_pairs m l n)) (λ _. ascending_delete (element m l n).key (pairs o m l n) (ascending_pairs m l n))
+
+  ascending_applied : (e : Element) (ps : List Pair) → Ascending o ps → Ascending o (applied o e ps)
+  ascending_applied e ps h = cond_both (eqb e.sign 1) _ _ (Ascending o) (λ _. ascending_insert _ ps h) (λ _. ascending_delete e.key ps h)
+
+  pub ascending_folded : (ps : List Pair) (es : List Element) → Ascending o ps → Ascending o (folded o ps es)
+  ascending_folded ps [] h = h
+  ascending_folded ps (e ∷ es) h = ascending_folded (applied o e ps) es (ascending_applied e ps h)

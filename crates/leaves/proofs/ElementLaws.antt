@@ -1,6 +1,7 @@
 -- What is read of a leaf's elements, said of the leaf's slots.
 use Rattle.std.proofs.Common.{◌≡◌, ℕ, zero, suc, ◌+◌, ◌<◌, true, false, cond, List, [], ◌∷◌, ◌++◌, length, get_or, take, drop, map, reverse, Some, Option, option_and_then, sym, refl, ap, ◌∙◌, arith}
 use Rattle.std.specs.List.{find, fold, range_with_len}
+use Rattle.std.proofs.lemmas.Bool.{cond-true, cond-false}
 use Rattle.std.proofs.lemmas.List.{drop_more, map-append, reverse-append, reverse-reverse}
 use Rattle.std.proofs.lemmas.List.Sums.{fold_more, fold_push}
 use Rattle.std.proofs.lemmas.List.FromFn.{length-map-range_with_len, map-range_with_len_more}
@@ -32,6 +33,14 @@ latest_more w m k s =
     ap (latest w) (map-range_with_len_more (element m k) 0 s s (omega arith))
     ∙ ap (λ ds. option_and_then held (find (λ d. equal d.key w) ds)) (reverse-append es (e ∷ []))
     ∙ elim (equal e.key w) as (λ b. option_and_then held (cond b (Some e) (find (λ d. equal d.key w) (reverse es))) ≡ cond b (held e) (latest w es)) [ true ↦ refl | false ↦ refl ]
+
+-- The newest of r elements decides if it is the key's, else the others do.
+module _ (w : ℕ × ℕ) (m : List ℕ) (k r s : ℕ) (one : s + 1 ≡ r) where
+  pub latest_newest : equal (element m k s).key w ≡ true → latest w (elements m k r) ≡ held (element m k s)
+  latest_newest is = ap (λ n. latest w (elements m k n)) (sym one) ∙ latest_more w m k s ∙ cond-true _ _ _ is
+
+  pub latest_others : equal (element m k s).key w ≡ false → latest w (elements m k r) ≡ latest w (elements m k s)
+  latest_others is = ap (λ n. latest w (elements m k n)) (sym one) ∙ latest_more w m k s ∙ cond-false _ _ _ is
 
 module _ (o : WordKind) where
   pub pairs_folded : (m : List ℕ) (k n : ℕ) → pairs o m k n ≡ folded o [] (elements m k n)

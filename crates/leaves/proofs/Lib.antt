@@ -1,4 +1,5 @@
 pub mod PairLaws
+pub mod NextLaws
 pub mod ElementLaws
 pub mod ReduceLaws
 pub mod RunLaws

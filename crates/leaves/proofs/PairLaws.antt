@@ -23,7 +23,7 @@ module _ (o : WordKind) (ordered : WordOrdered o) where
       ⊎_elim (λ f. absurd (both_ways _ (ordered.irreflexive b) (rw (equal_true a w e ∙ sym (equal_true b w f)) at h))) (λ f. f)
       (cases_Bool (equal b w))
 
-  lookup_insert : (w : ℕ × ℕ) (q : Pair) (ps : List Pair) → lookup w (insert o q ps) ≡ cond (equal q.key w) (Some q.reading) (lookup w ps)
+  pub lookup_insert : (w : ℕ × ℕ) (q : Pair) (ps : List Pair) → lookup w (insert o q ps) ≡ cond (equal q.key w) (Some q.reading) (lookup w ps)
   lookup_insert w q [] = refl
   lookup_insert w q (p ∷ ps) =
       let ih = lookup_insert w q ps in
@@ -31,7 +31,7 @@ module _ (o : WordKind) (ordered : WordOrdered o) where
       let tied = ordered.connected p.key q.key in
       grind arith
 
-  lookup_delete : (w k : ℕ × ℕ) (ps : List Pair) → lookup w (delete k ps) ≡ cond (equal k w) None (lookup w ps)
+  pub lookup_delete : (w k : ℕ × ℕ) (ps : List Pair) → lookup w (delete k ps) ≡ cond (equal k w) None (lookup w ps)
   lookup_delete w k [] = grind arith
   lookup_delete w k (p ∷ ps) =
       let ih = lookup_delete w k ps in

@@ -46,11 +46,6 @@ first_after o w ps = find (λ p. o.before w p.key) ps
 abbrev pub folded : WordKind → List Pair → List Element → List Pair
 folded o ps es = fold (λ qs e. applied o e qs) ps es
 
--- From a key's place on, the pairs that are not the key's own.
-abbrev pub past_own : WordKind → ℕ × ℕ → List Pair → List Pair
-past_own o w [] = []
-past_own o w (p ∷ ps) = cond (o.before w p.key) (p ∷ ps) ps
-
 -- What the newest of a key's elements says of it.
 abbrev pub latest : ℕ × ℕ → List Element → Option ℕ
 latest w es = option_and_then held (find (λ e. equal e.key w) (reverse es))

@@ -4,5 +4,4 @@
 
 pub mod decision;
 pub mod deed;
-pub mod free;
 pub mod laws;

@@ -4,32 +4,59 @@
 
 ghost use Rattle.std.specs.Prelude.{◌≡◌, ◌+◌, ◌*◌, ◌/◌, ◌^◌, ◌<◌, ◌≤◌, true, false, ◌⊎◌, ◌∷◌, ◌++◌, [], length, take, drop, flat_map, Err};
 ghost use Rattle.refusal.specs.declared.Refusal.TheVariants.{Outside};
-ghost use Rattle.fixed_vec.specs.Items.{items};
-ghost use Rattle.writes.specs.Writes.{onward, outcome, perform, single};
+ghost use Rattle.writes.specs.Writes.{lines_for, onward, outcome, perform, row, rows, single};
 ghost use Rattle.rewrites.specs.Bounds.{RewriteBounds};
 ghost use Rattle.rewrites.specs.Shares.{shared};
 ghost use Rattle.rewrites.specs.Example.{Example};
 ghost use Rattle.rewrites.specs.Parity.{NeverEmpty};
 ghost use Rattle.rewrites.specs.Rewrite.{CostsFew, LeafCost, Replacements, RewriteCost, Rewritings, leaf_lines, leaf_steps, pair_words};
 
-use fixed_vec::FixedVec;
 use leaves::leaf::Pair;
 use memory::Memory;
 use refusal::Refusal;
-use writes::{write_lines, write_row};
+use writes::write_row;
 
-// The words of a new leaf's pairs, four for each.
-fn words_of(pairs: &[Pair]) -> FixedVec<u64, 64>
-    requires { length pairs.now ≤ 16 }
-    ensures { items result ≡ flat_map pair_words pairs.now }
+// Writes one or two pairs from a line's first word on, and flushes the line.
+fn write_two<M: Memory>(
+    memory: &mut M,
+    steps: &mut usize,
+    at: usize,
+    pairs: &[Pair],
+) -> Result<(), Refusal>
+    requires { length pairs.now ≤ 2 }
+    ensures done { at + 4 * length pairs.now < 2 ^ 64 → steps.old + 4 * length pairs.now + 1 < 2 ^ 64 → outcome (M.Memory.meaning memory.new) steps.new result ≡ onward steps.old (perform (M.Memory.meaning memory.old) (row at (flat_map pair_words pairs.now) ∷ [])) }
+    ensures few { steps.new ≤ steps.old + 4 * length pairs.now + 1 }
 {
-    let mut words = FixedVec::new(0);
-    for pair in pairs {
-        words
-            .extend_from_slice(&[1, pair.key.0, pair.key.1, pair.reading])
-            .unwrap();
+    match pairs {
+        [a, b] => write_row(
+            memory,
+            steps,
+            at,
+            &[
+                1, a.key.0, a.key.1, a.reading, 1, b.key.0, b.key.1, b.reading,
+            ],
+        ),
+        [a] => write_row(memory, steps, at, &[1, a.key.0, a.key.1, a.reading]),
+        _ => write_row(memory, steps, at, &[]),
     }
-    words
+}
+
+// Writes pairs from a line's first word on, two to a line, until the first refusal. Granted steps are counted.
+fn write_pairs<M: Memory>(
+    memory: &mut M,
+    steps: &mut usize,
+    first: usize,
+    pairs: &[Pair],
+) -> Result<(), Refusal>
+    ensures done { first + 4 * length pairs.now < 2 ^ 64 → steps.old + 4 * length pairs.now + lines_for (4 * length pairs.now) < 2 ^ 64 → outcome (M.Memory.meaning memory.new) steps.new result ≡ onward steps.old (perform (M.Memory.meaning memory.old) (rows (lines_for (length (flat_map pair_words pairs.now))) first (flat_map pair_words pairs.now))) }
+    ensures few { steps.new ≤ steps.old + 4 * length pairs.now + lines_for (4 * length pairs.now) }
+{
+    let mut at = first;
+    for two in pairs.chunks(2) {
+        write_two(memory, steps, at, two)?;
+        at = at.saturating_add(8);
+    }
+    Ok(())
 }
 
 // Writes a new leaf, which nothing links yet: its pairs from slot 0 on, and then its next, its count and form 0, until the first refusal.
@@ -49,8 +76,7 @@ pub fn write_leaf<M: Memory>(
         return Err(Refusal::Outside);
     }
     let start = 8 + 72 * (leaf - 1);
-    let words = words_of(pairs);
-    write_lines(memory, steps, start + 8, words.as_slice())?;
+    write_pairs(memory, steps, start + 8, pairs)?;
     write_row(memory, steps, start, &[next as u64, pairs.len() as u64, 0])
 }
 

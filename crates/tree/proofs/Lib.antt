@@ -2,6 +2,7 @@ pub mod LocatedLaws
 pub mod OpenLaws
 pub mod WalkLaws
 pub mod FormatLaws
+pub mod UsedLaws
 pub mod TurnLaws
 pub mod CarryLaws
 pub mod RewriteLaws

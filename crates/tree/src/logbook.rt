@@ -7,6 +7,7 @@ pub mod carry;
 pub mod cut;
 pub mod find;
 pub mod format;
+pub(crate) mod free;
 pub mod make;
 pub mod next;
 pub mod node;

@@ -8,15 +8,16 @@ use super::Entry;
 use keys::Key;
 
 // The first entry whose bound is not before the key, otherwise the last.
-pub(crate) fn search<K: Key>(entries: &[Entry], key: (u64, u64)) -> usize
+#[inline(always)]
+pub(crate) fn search<K: Key>(entries: &[Entry], key: &K) -> usize
     requires { 0 < length entries.now }
-    ensures place { result ≡ place_of (in_words K.Key.kind) key (bounds entries.now) }
+    ensures place { result ≡ place_of (in_words K.Key.kind) (K.Key.kind.form key.now) (bounds entries.now) }
     ensures within { result < length entries.now }
 {
     let last = entries.len() - 1;
     let front = &entries[..last];
     front
         .iter()
-        .position(|e| !K::pair_before(e.bound, key))
+        .position(|e| !K::stands_before(e.bound, key))
         .unwrap_or(last)
 }

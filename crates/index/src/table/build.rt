@@ -98,6 +98,18 @@ pub(crate) fn put_nodes(nodes: &mut [Node], entries: &[Entry])
     }
 }
 
+impl Index {
+    // Builds the index anew, one leaf in each node of the lowest level.
+    pub(crate) fn fill(&mut self, entries: &[Entry])
+        requires { (1 ≤ length entries.now) × (length entries.now ≤ 64) }
+        ensures { grouped self.new ≡ singles entries.now }
+    {
+        put_nodes(&mut self.nodes, entries);
+        self.leaves = entries.len();
+        self.used = entries.len();
+    }
+}
+
 // One leaf in each node of the lowest level.
 pub(crate) fn built(entries: &[Entry]) -> Index
     requires { (1 ≤ length entries.now) × (length entries.now ≤ 64) }

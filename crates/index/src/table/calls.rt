@@ -1,8 +1,9 @@
 // The calls of an index. Each takes any arguments: where a place is not there it says so and changes nothing.
-ghost use Rattle.std.specs.Prelude.{◌≡◌, ℕ, ◌<◌, true, if◌then◌else◌, Ok, Err, nat_lt};
+ghost use Rattle.std.specs.Prelude.{◌≡◌, ℕ, ◌<◌, true, if◌then◌else◌, is_some, length, Ok, Err, nat_lt};
+ghost use Rattle.std.specs.Option.{unwrap_or};
 ghost use Rattle.keys.specs.InWords.{in_words};
 ghost use Rattle.refusal.specs.declared.Refusal.TheVariants.{Outside};
-ghost use Rattle.index.specs.Nodes.{bounds, joined, parted, renamed};
+ghost use Rattle.index.specs.Nodes.{bounds, holds, joined, parted, renamed};
 ghost use Rattle.index.specs.Search.{search as place_of, front, Ascending, First};
 ghost use Rattle.index.specs.Keeping.{AscendsWith, AscendsStill};
 ghost use Rattle.index.specs.Places.{within, position, place_after, place_before};
@@ -11,6 +12,7 @@ ghost use Rattle.index.specs.Showing.{told, node_told};
 
 use super::build::built;
 use super::change::rename_in;
+use super::list::has_leaf;
 use super::{Index, Place};
 use crate::node::Entry;
 use crate::node::search::search;
@@ -26,12 +28,38 @@ impl Index {
         (1..=64).contains(&entries.len()).then(|| built(entries))
     }
 
+    // Makes it the index of 1 to 64 leaves, one in each node of the lowest level; nothing where there are none or more.
+    pub fn reset(&mut self, entries: &[Entry]) -> bool
+        ensures answer { result ≡ is_some (built_groups entries.now) }
+        ensures groups { grouped self.new ≡ unwrap_or (built_groups entries.now) (grouped self.old) }
+    {
+        if !(1..=64).contains(&entries.len()) {
+            return false;
+        }
+        self.fill(entries);
+        true
+    }
+
+    // How many leaves there are.
+    pub fn len(&self) -> usize
+        ensures { result ≡ length (listed self.now) }
+    {
+        self.leaves
+    }
+
+    // Whether a leaf is there.
+    pub fn holds(&self, leaf: usize) -> bool
+        ensures { result ≡ holds leaf (listed self.now) }
+    {
+        self.groups().iter().any(|node| has_leaf(node, leaf))
+    }
+
     // The first leaf whose bound is not before the key, otherwise the last.
-    pub fn locate<K: Key>(&self, key: (u64, u64)) -> Place
+    pub fn locate<K: Key>(&self, key: &K) -> Place
         ensures within { within (grouped self.now) result ≡ true }
-        ensures place { Ascending (in_words K.Key.kind) (front (bounds (listed self.now))) → position (grouped self.now) result ≡ place_of (in_words K.Key.kind) key (bounds (listed self.now)) }
-        ensures first { Ascending (in_words K.Key.kind) (front (bounds (listed self.now))) → First (in_words K.Key.kind) key (bounds (listed self.now)) (position (grouped self.now) result) }
-        ensures only { (p : ℕ) → Ascending (in_words K.Key.kind) (front (bounds (listed self.now))) → First (in_words K.Key.kind) key (bounds (listed self.now)) p → position (grouped self.now) result ≡ p }
+        ensures place { Ascending (in_words K.Key.kind) (front (bounds (listed self.now))) → position (grouped self.now) result ≡ place_of (in_words K.Key.kind) (K.Key.kind.form key.now) (bounds (listed self.now)) }
+        ensures first { Ascending (in_words K.Key.kind) (front (bounds (listed self.now))) → First (in_words K.Key.kind) (K.Key.kind.form key.now) (bounds (listed self.now)) (position (grouped self.now) result) }
+        ensures only { (p : ℕ) → Ascending (in_words K.Key.kind) (front (bounds (listed self.now))) → First (in_words K.Key.kind) (K.Key.kind.form key.now) (bounds (listed self.now)) p → position (grouped self.now) result ≡ p }
     {
         let group = self.group_of::<K>(key);
         let slot = search::<K>(self.groups()[group].entries.as_slice(), key);

@@ -1,14 +1,13 @@
 // All leaves in their order, and changes that build the index anew.
 ghost use Rattle.std.specs.Prelude.{◌≡◌, ◌+◌, ◌<◌, ◌≤◌, ◌++◌, true, length, Some, slice_set};
 ghost use Rattle.fixed_vec.specs.Items.{items as items_of};
-ghost use Rattle.index.specs.Nodes.{items, chained, numbers, parted, joined};
+ghost use Rattle.index.specs.Nodes.{items, chained, holds, numbers, parted, joined};
 ghost use Rattle.index.specs.Search.{concat};
 ghost use Rattle.index.specs.Keeping.{AscendsWith, AscendsStill};
 ghost use Rattle.index.specs.Shape.{singles};
 ghost use Rattle.index.specs.Places.{position, place_after};
 ghost use Rattle.index.specs.Meaning.{grouped, listed, merged, split as split_groups, splits};
 
-use super::build::put_nodes;
 use super::{Index, Place};
 use crate::node::fill::empty;
 use crate::node::{Entry, Node};
@@ -22,6 +21,13 @@ fn push_numbers(all: &mut FixedVec<usize, 64>, leaves: &[Entry])
     for leaf in leaves {
         all.push(leaf.to).unwrap();
     }
+}
+
+// Whether a leaf is one of a node's.
+pub(crate) fn has_leaf(node: &Node, leaf: usize) -> bool
+    ensures { result ≡ holds leaf (items node.now) }
+{
+    node.entries.as_slice().iter().any(|e| e.to == leaf)
 }
 
 impl Index {
@@ -56,10 +62,7 @@ impl Index {
         ensures { grouped self.new ≡ singles (concat (slice_set (grouped self.old) group (items other.now))) }
     {
         let all = self.list_with(group, other);
-        let entries = all.as_slice();
-        put_nodes(&mut self.nodes, entries);
-        self.leaves = entries.len();
-        self.used = entries.len();
+        self.fill(all.as_slice());
     }
 
     // Two leaves in the place of one.

@@ -40,9 +40,9 @@ impl Index {
     }
 
     // The entry of node `at` that the key belongs to.
-    fn entry_at<K: Key>(&self, at: usize, key: (u64, u64)) -> usize
+    fn entry_at<K: Key>(&self, at: usize, key: &K) -> usize
         requires { (at < 91) × (0 < length (table_node (grouped self.now) at)) }
-        ensures place { result ≡ place_of (in_words K.Key.kind) key (bounds (table_node (grouped self.now) at)) }
+        ensures place { result ≡ place_of (in_words K.Key.kind) (K.Key.kind.form key.now) (bounds (table_node (grouped self.now) at)) }
         ensures within { result < length (table_node (grouped self.now) at) }
         ensures small { result < 9 }
     {
@@ -50,9 +50,9 @@ impl Index {
     }
 
     // The group that a key belongs to, by one node on each level above the groups.
-    pub(crate) fn group_of<K: Key>(&self, key: (u64, u64)) -> usize
+    pub(crate) fn group_of<K: Key>(&self, key: &K) -> usize
         ensures within { result < length (grouped self.now) }
-        ensures group { Ascending (in_words K.Key.kind) (front (bounds (listed self.now))) → result ≡ place_of (in_words K.Key.kind) key (lasts (grouped self.now)) }
+        ensures group { Ascending (in_words K.Key.kind) (front (bounds (listed self.now))) → result ≡ place_of (in_words K.Key.kind) (K.Key.kind.form key.now) (lasts (grouped self.now)) }
     {
         if self.used <= 1 {
             return 0;

@@ -80,6 +80,12 @@ impl Key for Stamp {
         self < other
     }
 
+    #[inline(always)]
+    fn stands_before(words: (u64, u64), key: &Stamp) -> bool {
+        let own = key.pack();
+        is_packed(words) && first_before((words.1, words.0), (own.1, own.0))
+    }
+
     // The words of stamps are compared as they stand, the second ones first: that is their order in time.
     #[inline(always)]
     fn pair_before(a: (u64, u64), b: (u64, u64)) -> bool {

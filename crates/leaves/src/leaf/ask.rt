@@ -71,8 +71,7 @@ pub fn next_in<K: Key, M: Memory>(
     ensures value { result ≡ counted (M.Memory.meaning memory.old).live leaf (λ n. first_after (in_words K.Key.kind) key (pairs (in_words K.Key.kind) (M.Memory.meaning memory.old).live leaf n)) }
 {
     let elements = elements_in(memory, leaf)?;
-    let run = load::<K>(&elements);
-    Ok(next::<K>(run.as_slice(), key))
+    Ok(next::<K>(elements.as_slice(), key))
 }
 
 // How many pairs the leaf has.

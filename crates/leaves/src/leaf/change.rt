@@ -33,12 +33,11 @@ pub fn put_into<K: Key>(elements: &Elements, pair: Pair) -> Run
     after
 }
 
-// The pairs after a change.
+// The pairs after a change: the pair that is put takes the place of the one that the key has.
 pub fn change_in<K: Key>(elements: &Elements, pair: Pair) -> Run
     ensures { items result ≡ insert (in_words K.Key.kind) pair (delete pair.key (folded (in_words K.Key.kind) [] (items elements.now))) }
 {
     let mut run = load::<K>(elements);
-    take_key(&mut run, pair.key);
     put_pair::<K>(&mut run, pair);
     run
 }
@@ -49,7 +48,7 @@ pub fn remove_from<K: Key>(elements: &Elements, key: (u64, u64)) -> Run
     ensures fits { length (items result) ≤ 16 }
 {
     let mut run = load::<K>(elements);
-    take_key(&mut run, key);
+    take_key::<K>(&mut run, key);
     run
 }
 

@@ -1,5 +1,5 @@
 // Words and elements of one leaf, for every content of the memory.
-ghost use Rattle.std.specs.Prelude.{◌≡◌, ◌<◌, ◌≤◌, length, if◌then◌else◌};
+ghost use Rattle.std.specs.Prelude.{◌≡◌, ◌<◌, ◌≤◌, length};
 ghost use Rattle.fixed_vec.specs.Items.{items};
 ghost use Rattle.leaves.specs.Layout.{word, Within, leaf_at, element as element_at, elements as elements_of};
 ghost use Rattle.leaves.specs.Pairs.{equal, held as held_by, latest};
@@ -54,29 +54,30 @@ pub(crate) fn elements<M: Memory>(memory: &mut M, leaf: usize, count: usize) -> 
     read
 }
 
-// What a key's newest element says of it up to a slot, if `held` is what the older ones say.
-fn held_after<M: Memory>(
-    memory: &mut M,
-    leaf: usize,
-    slot: usize,
-    key: (u64, u64),
-    held: Option<u64>,
-) -> Option<u64>
+// Whether the element in a slot is one of the key.
+fn is_of<M: Memory>(memory: &mut M, leaf: usize, slot: usize, key: (u64, u64)) -> bool
     requires { (Within (M.Memory.meaning memory.old).live leaf) × (slot < 16) }
     ensures same { M.Memory.meaning memory.new ≡ M.Memory.meaning memory.old }
-    ensures value { result ≡ (if equal (element_at (M.Memory.meaning memory.old).live leaf slot).key key then held_by (element_at (M.Memory.meaning memory.old).live leaf slot) else held) }
+    ensures value { result ≡ equal (element_at (M.Memory.meaning memory.old).live leaf slot).key key }
 {
     let start = start_of(leaf) + 8 + 4 * slot;
-    if word_at(memory, start + 1) != key.0 || word_at(memory, start + 2) != key.1 {
-        return held;
-    }
+    word_at(memory, start + 1) == key.0 && word_at(memory, start + 2) == key.1
+}
+
+// What the element in a slot says of its key.
+fn held_at<M: Memory>(memory: &mut M, leaf: usize, slot: usize) -> Option<u64>
+    requires { (Within (M.Memory.meaning memory.old).live leaf) × (slot < 16) }
+    ensures same { M.Memory.meaning memory.new ≡ M.Memory.meaning memory.old }
+    ensures value { result ≡ held_by (element_at (M.Memory.meaning memory.old).live leaf slot) }
+{
+    let start = start_of(leaf) + 8 + 4 * slot;
     if word_at(memory, start) != 1 {
         return None;
     }
     Some(word_at(memory, start + 3))
 }
 
-// The reading that the oldest `count` elements of the leaf leave the key with; no word is read twice.
+// The reading that the oldest `count` elements of the leaf leave the key with, looked for from the newest on; no word is read twice.
 pub(crate) fn find_by_reads<M: Memory>(
     memory: &mut M,
     leaf: usize,
@@ -87,11 +88,12 @@ pub(crate) fn find_by_reads<M: Memory>(
     ensures same { M.Memory.meaning memory.new ≡ M.Memory.meaning memory.old }
     ensures value { result ≡ latest key (elements_of (M.Memory.meaning memory.old).live leaf count) }
 {
-    let mut held = None;
-    for slot in 0..count {
-        held = held_after(memory, leaf, slot, key, held);
+    for slot in (0..count).rev() {
+        if is_of(memory, leaf, slot, key) {
+            return held_at(memory, leaf, slot);
+        }
     }
-    held
+    None
 }
 
 // What an element says of its key.

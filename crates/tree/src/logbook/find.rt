@@ -19,7 +19,7 @@ impl<K: Key, M: Memory> Logbook<K, M> {
         ensures answer { Sound (in_words K.Key.kind) (M.Memory.meaning self.old.memory).live self.old.state → result ≡ find_answer (in_words K.Key.kind) (M.Memory.meaning self.old.memory).live self.old.state (K.Key.kind.form key.now) }
     {
         let words = key.pack();
-        let leaf = self.leaf_for(words)?;
+        let leaf = self.leaf_for(key)?;
         find_in::<K, M>(&mut self.memory, leaf, words)?.ok_or(Refusal::Absent)
     }
 }

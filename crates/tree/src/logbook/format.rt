@@ -30,15 +30,19 @@ fn write_book<M: Memory>(
     write_row(memory, steps, 0, &[30_366])
 }
 
-// The state of a logbook with leaf 1 alone, and that empty.
-fn alone() -> State
-    ensures { shape_of result ≡ ended_shape (Ok tt) }
+// Makes a state that of a logbook with leaf 1 alone, and that empty. An index that is there is built anew where it stands.
+fn make_alone(state: &mut State)
+    ensures { shape_of state.new ≡ ended_shape (Ok tt) }
 {
-    let first = Entry {
+    let first = [Entry {
         to: 1,
         bound: (0, 0),
-    };
-    Index::build(&[first]).map_or(State::Blank, State::Open)
+    }];
+    if let State::Open(index) = state {
+        index.reset(&first);
+        return;
+    }
+    *state = Index::build(&first).map_or(State::Blank, State::Open);
 }
 
 impl<K: Key, M: Memory> Logbook<K, M> {
@@ -67,7 +71,7 @@ impl<K: Key, M: Memory> Logbook<K, M> {
         let mut steps = 0;
         match write_book(&mut self.memory, &mut steps, K::code(), leaves as u64) {
             Ok(()) => {
-                self.state = alone();
+                make_alone(&mut self.state);
                 self.taken = None;
                 Ok(())
             }

@@ -20,7 +20,7 @@ impl<K: Key, M: Memory> Logbook<K, M> {
         ensures answer { Sound (in_words K.Key.kind) (M.Memory.meaning self.old.memory).live self.old.state → result ≡ next_answer (in_words K.Key.kind) (M.Memory.meaning self.old.memory).live self.old.state (K.Key.kind.form key.now) }
     {
         let words = key.pack();
-        let mut place = Some(self.place_for(words)?);
+        let mut place = Some(self.place_for(key)?);
         while let Some(at) = place {
             let (leaf, after) = self.step(at)?;
             if let Some(pair) = next_in::<K, M>(&mut self.memory, leaf, words)? {

@@ -15,8 +15,8 @@ use memory::Memory;
 use refusal::Refusal;
 
 // The leaf that the index locates for a key.
-fn located<K: Key>(index: &Index, key: (u64, u64)) -> usize
-    ensures { Ascending (in_words K.Key.kind) (front (bounds (listed index.now))) → result ≡ (slice_index_or (listed index.now) (search (in_words K.Key.kind) key (bounds (listed index.now))) (entry 0 (0, 0))).to }
+fn located<K: Key>(index: &Index, key: &K) -> usize
+    ensures { Ascending (in_words K.Key.kind) (front (bounds (listed index.now))) → result ≡ (slice_index_or (listed index.now) (search (in_words K.Key.kind) (K.Key.kind.form key.now) (bounds (listed index.now))) (entry 0 (0, 0))).to }
 {
     let place = index.locate::<K>(key);
     index.entry(place).unwrap().to
@@ -50,24 +50,24 @@ impl<K: Key, M: Memory> Logbook<K, M> {
     }
 
     // The leaf where a key belongs; refused unless the logbook is open.
-    pub(crate) fn leaf_for(&self, key: (u64, u64)) -> Result<usize, Refusal>
-        ensures { Rising (in_words K.Key.kind) self.now.state → result ≡ leaf_for_key (in_words K.Key.kind) self.now.state key }
+    pub(crate) fn leaf_for(&self, key: &K) -> Result<usize, Refusal>
+        ensures { Rising (in_words K.Key.kind) self.now.state → result ≡ leaf_for_key (in_words K.Key.kind) self.now.state (K.Key.kind.form key.now) }
     {
         let index = self.index()?;
         Ok(located::<K>(index, key))
     }
 
     // The place where a key belongs; refused unless the logbook is open.
-    pub(crate) fn place_for(&self, key: (u64, u64)) -> Result<Place, Refusal>
-        ensures { MatchResult result (λ place. Located (in_words K.Key.kind) self.now.state key place) (λ refusal. indexed self.now.state ≡ Err refusal) }
+    pub(crate) fn place_for(&self, key: &K) -> Result<Place, Refusal>
+        ensures { MatchResult result (λ place. Located (in_words K.Key.kind) self.now.state (K.Key.kind.form key.now) place) (λ refusal. indexed self.now.state ≡ Err refusal) }
     {
         let index = self.index()?;
         Ok(index.locate::<K>(key))
     }
 
     // Where a key belongs; refused unless the logbook is open.
-    pub(crate) fn home(&self, key: (u64, u64)) -> Result<Home, Refusal>
-        ensures { MatchResult result (λ home. HomeIn (in_words K.Key.kind) self.now.state key home) (λ refusal. indexed self.now.state ≡ Err refusal) }
+    pub(crate) fn home(&self, key: &K) -> Result<Home, Refusal>
+        ensures { MatchResult result (λ home. HomeIn (in_words K.Key.kind) self.now.state (K.Key.kind.form key.now) home) (λ refusal. indexed self.now.state ≡ Err refusal) }
     {
         let index = self.index()?;
         let place = index.locate::<K>(key);

@@ -21,8 +21,8 @@ ghost use Rattle.tree.specs.Walk.{leaf_of, past_of};
 use super::Logbook;
 use super::adopt::Regroup;
 use super::carry::Halt;
+use super::free::next_free;
 use super::place::{Home, leaf_at};
-use fixed_vec::FixedVec;
 use index::node::Entry;
 use index::table::{Index, Place};
 use keys::Key;
@@ -32,20 +32,8 @@ use leaves::leaf::{Pair, Run};
 use memory::Memory;
 use plans::decision::{Decision, decide};
 use plans::deed::Call;
-use plans::free::next_free;
 use refusal::Refusal;
 use rewrites::{rewrite_one, rewrite_two};
-
-// The leaves in use: one that is taken for this rewrite, if there is one, and those of the index.
-fn used(index: &Index, also: &[usize]) -> FixedVec<usize, 65>
-    requires { length also.now ≤ 1 }
-    ensures { items result ≡ also.now ++ numbers (listed index.now) }
-{
-    let mut all = FixedVec::<usize, 65>::new(0);
-    all.extend_from_slice(also).unwrap();
-    all.extend_from_slice(index.numbers().as_slice()).unwrap();
-    all
-}
 
 // The word that links the leaf at a place.
 fn link_word(index: &Index, place: Place) -> usize
@@ -111,8 +99,7 @@ impl<K: Key, M: Memory> Logbook<K, M> {
     {
         let leaves = self.leaves()?;
         let index = self.index()?;
-        let linked = used(index, &[]);
-        let leaf = next_free(leaves, linked.as_slice(), self.taken).unwrap_or(0);
+        let leaf = next_free(index, &[], leaves, self.taken).unwrap_or(0);
         let at = link_word(index, place);
         let size = self.memory.size();
         if !has_leaf(size, leaf) || size <= at {
@@ -120,7 +107,7 @@ impl<K: Key, M: Memory> Logbook<K, M> {
         }
         Ok(New {
             leaves,
-            linked: linked.len(),
+            linked: index.len(),
             leaf,
             at,
         })
@@ -131,8 +118,7 @@ impl<K: Key, M: Memory> Logbook<K, M> {
         ensures { (x : AnIndex) → self.now.state ≡ Open x → result ≡ leaf_in (size_of (M.Memory.meaning self.now.memory)) (taken new.now.leaves (new.now.leaf ∷ numbers (listed x)) (Some new.now.leaf)) }
     {
         let index = self.index()?;
-        let linked = used(index, &[new.leaf]);
-        let second = next_free(new.leaves, linked.as_slice(), Some(new.leaf)).unwrap_or(0);
+        let second = next_free(index, &[new.leaf], new.leaves, Some(new.leaf)).unwrap_or(0);
         if !has_leaf(self.memory.size(), second) {
             return Err(Refusal::Outside);
         }

@@ -14,7 +14,7 @@ ghost use Rattle.tree.specs.declared.logbook.State.TheVariants.{Open};
 ghost use Rattle.tree.specs.Anywhere.{Answered, removed_steps};
 ghost use Rattle.tree.specs.Shape.{shape_of};
 ghost use Rattle.tree.specs.Sound.{Sound};
-ghost use Rattle.tree.specs.Turning.{Working, call_ending, changed, ending, RemovalEnds, told, wished};
+ghost use Rattle.tree.specs.Turning.{Working, call_ending, changed, ending, rewrite_ending, RemovalEnds, told, wished};
 
 use super::Logbook;
 use super::carry::Halt;
@@ -98,17 +98,27 @@ impl<K: Key, M: Memory> Logbook<K, M> {
         if count.saturating_add(list.len()) <= 16 {
             return self.append(home.leaf, count, deed.key(), list);
         }
+        self.carry_anew(home, deed)
+    }
+
+    // Carries a call out by a rewrite. It stands apart from the others so that an append does not pay for the room that it takes.
+    #[inline(never)]
+    fn carry_anew(&mut self, home: Home, deed: Deed) -> Result<usize, Halt>
+        ensures done { (x : Index) → self.old.state ≡ Open x → Working (in_words K.Key.kind) (M.Memory.meaning self.old.memory).live x (key_of deed) home → ending result (M.Memory.meaning self.new.memory) (shape_of self.new.state) self.new.taken ≡ rewrite_ending (in_words K.Key.kind) (M.Memory.meaning self.old.memory) x self.old.taken (key_of deed) (call_of deed) (done (in_words K.Key.kind) deed (pairs_of (in_words K.Key.kind) (M.Memory.meaning self.old.memory).live home.leaf)) }
+        ensures any { (x : Index) → self.old.state ≡ Open x → Answered (M.Memory.meaning self.old.memory) self.old.state self.old.taken (ending result (M.Memory.meaning self.new.memory) (shape_of self.new.state) self.new.taken) }
+    {
         let elements = elements_in(&mut self.memory, home.leaf)?;
         self.rewrite(home, &pairs_after::<K>(&elements, deed), deed.call())
     }
 
-    // A call of any of the three.
-    fn turn(&mut self, deed: Deed) -> Result<Done, Halt>
+    // A call of any of the three, which puts a key to use as the deed has it.
+    fn turn(&mut self, key: &K, deed: Deed) -> Result<Done, Halt>
+        requires { key_of deed ≡ K.Key.kind.form key.now }
         ensures ending { Sound (in_words K.Key.kind) (M.Memory.meaning self.old.memory).live self.old.state → ending (told result) (M.Memory.meaning self.new.memory) (shape_of self.new.state) self.new.taken ≡ call_ending (in_words K.Key.kind) (M.Memory.meaning self.old.memory) self.old.state self.old.taken deed }
         ensures held { Sound (in_words K.Key.kind) (M.Memory.meaning self.old.memory).live self.old.state → IfOk result (λ done. done.held ≡ lookup (key_of deed) (book (in_words K.Key.kind) (M.Memory.meaning self.old.memory).live)) }
         ensures any { Answered (M.Memory.meaning self.old.memory) self.old.state self.old.taken (ending (told result) (M.Memory.meaning self.new.memory) (shape_of self.new.state) self.new.taken) }
     {
-        let home = self.home(deed.key())?;
+        let home = self.home(key)?;
         let seen = look_in(&mut self.memory, home.leaf, deed.key())?;
         let list = wish(deed, seen.held)?;
         let steps = self.carry(home, seen.count, deed, list.as_slice())?;
@@ -125,8 +135,12 @@ impl<K: Key, M: Memory> Logbook<K, M> {
         ensures sound { Sound (in_words K.Key.kind) (M.Memory.meaning self.old.memory).live self.old.state → Sound (in_words K.Key.kind) (M.Memory.meaning self.new.memory).live self.new.state }
         ensures any { Answered (M.Memory.meaning self.old.memory) self.old.state self.old.taken (ending result (M.Memory.meaning self.new.memory) (shape_of self.new.state) self.new.taken) }
     {
-        let key = key.pack();
-        Ok(self.turn(Deed::Put { key, reading })?.steps)
+        let words = key.pack();
+        let deed = Deed::Put {
+            key: words,
+            reading,
+        };
+        Ok(self.turn(key, deed)?.steps)
     }
 
     // Gives a key another reading; refused where the key is not in the book. Told: the steps, none for the reading that it has.
@@ -135,8 +149,12 @@ impl<K: Key, M: Memory> Logbook<K, M> {
         ensures sound { Sound (in_words K.Key.kind) (M.Memory.meaning self.old.memory).live self.old.state → Sound (in_words K.Key.kind) (M.Memory.meaning self.new.memory).live self.new.state }
         ensures any { Answered (M.Memory.meaning self.old.memory) self.old.state self.old.taken (ending result (M.Memory.meaning self.new.memory) (shape_of self.new.state) self.new.taken) }
     {
-        let key = key.pack();
-        Ok(self.turn(Deed::Change { key, reading })?.steps)
+        let words = key.pack();
+        let deed = Deed::Change {
+            key: words,
+            reading,
+        };
+        Ok(self.turn(key, deed)?.steps)
     }
 
     // Takes a pair out; refused where the key is not in the book. Told: its reading, and the steps.
@@ -145,8 +163,8 @@ impl<K: Key, M: Memory> Logbook<K, M> {
         ensures sound { Sound (in_words K.Key.kind) (M.Memory.meaning self.old.memory).live self.old.state → Sound (in_words K.Key.kind) (M.Memory.meaning self.new.memory).live self.new.state }
         ensures any { Answered (M.Memory.meaning self.old.memory) self.old.state self.old.taken (ending (removed_steps result) (M.Memory.meaning self.new.memory) (shape_of self.new.state) self.new.taken) }
     {
-        let key = key.pack();
-        let done = self.turn(Deed::Remove { key })?;
+        let words = key.pack();
+        let done = self.turn(key, Deed::Remove { key: words })?;
         Ok(Removed {
             reading: done.held.unwrap_or(0),
             steps: done.steps,

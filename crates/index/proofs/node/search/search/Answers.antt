@@ -9,4 +9,4 @@ pub returns-clause-place : goal.returns-clause-place
 returns-clause-place g c =
     let o = in_words g.K.Key.kind in
     let es = c.args.entries.now in
-    c.unwrap_or.ensures ∙ search_first o c.args.key es c.position.result c.requires (IsFirst-from_position _ _ _ (λ e. o.before e.bound c.args.key ≡ false) (λ e. o.before e.bound c.args.key ≡ true) c.position.ensures.ran (YieldsList-from_slice (take (length es - 1) es) cc) (λ x q k. search (rules, tests)) (λ x q k. search (rules, tests)))
+    c.unwrap_or.ensures ∙ search_first o (g.K.Key.kind.form c.args.key.now) es c.position.result c.requires (IsFirst-from_position _ _ _ (λ e. o.before e.bound (g.K.Key.kind.form c.args.key.now) ≡ false) (λ e. o.before e.bound (g.K.Key.kind.form c.args.key.now) ≡ true) c.position.ensures.ran (YieldsList-from_slice (take (length es - 1) es) cc) (λ x q k. search (rules, tests)) (λ x q k. search (rules, tests)))

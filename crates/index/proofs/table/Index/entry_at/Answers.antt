@@ -15,7 +15,7 @@ returns g c =
     let x = c.args.self.now in
     let same = c.as_slice.ensures.value ∙ node_is x c.args.at c.index-self-at.result c.requires.0 in
     record {
-      place = c.search.ensures.place ∙ ap (λ es. search (in_words g.K.Key.kind) c.args.key (bounds es)) same;
+      place = c.search.ensures.place ∙ ap (λ es. search (in_words g.K.Key.kind) (g.K.Key.kind.form c.args.key.now) (bounds es)) same;
       within = omega (arith, c.search.ensures.within, ap length same);
       small = omega (arith, c.search.ensures.within, c.as_slice.ensures.fits);
     }

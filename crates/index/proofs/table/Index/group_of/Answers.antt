@@ -9,7 +9,7 @@ pub returns-then-self-le1 : goal.returns-then-self-le1
 returns-then-self-le1 g c =
     let x = c.args.self.now in
     let n = length_grouped x in
-    record { within = omega (arith, n, x.size.0); group = λ up. only_group (in_words g.K.Key.kind) c.args.key (grouped x) (omega (arith, n, c.if-self-le1.true)) }
+    record { within = omega (arith, n, x.size.0); group = λ up. only_group (in_words g.K.Key.kind) (g.K.Key.kind.form c.args.key.now) (grouped x) (omega (arith, n, c.if-self-le1.true)) }
 
 pub entry_at-row-requires : goal.entry_at-row-requires
 entry_at-row-requires g c =
@@ -22,7 +22,7 @@ returns-then-self-le9 g c =
     let n = length_grouped x in
     let some : 1 < length (grouped x) = omega (arith, n, c.if-self-le1.false) in
     let few : length (grouped x) ≤ 9 = omega (arith, n, c.if-self-le9.true) in
-    record { within = omega (arith, c.entry_at-row.ensures.within, few_length (grouped x) some few); group = λ up. few_group (grouped x) some few (in_words g.K.Key.kind) c.args.key c.entry_at-row.ensures.place }
+    record { within = omega (arith, c.entry_at-row.ensures.within, few_length (grouped x) some few); group = λ up. few_group (grouped x) some few (in_words g.K.Key.kind) (g.K.Key.kind.form c.args.key.now) c.entry_at-row.ensures.place }
 
 pub entry_at-column-requires : goal.entry_at-column-requires
 entry_at-column-requires g c =
@@ -38,5 +38,5 @@ returns g c =
     let row = c.entry_at-row.ensures in
     record {
       within = many_within (grouped x) many c.entry_at-row.result row.within c.entry_at-column.result c.entry_at-column.ensures.within;
-      group = λ up. many_group (grouped x) many c.entry_at-row.result row.within (in_words g.K.Key.kind) (in_words_ordered g.K.Key.kind g.met.K.Key.ordered g.met.K.Key.formed) c.args.key (omega (arith, n, x.size.1)) x.full up row.place c.entry_at-column.ensures.place;
+      group = λ up. many_group (grouped x) many c.entry_at-row.result row.within (in_words g.K.Key.kind) (in_words_ordered g.K.Key.kind g.met.K.Key.ordered g.met.K.Key.formed) (g.K.Key.kind.form c.args.key.now) (omega (arith, n, x.size.1)) x.full up row.place c.entry_at-column.ensures.place;
     }

@@ -29,11 +29,11 @@ returns g c =
     let laws = in_words_ordered g.K.Key.kind g.met.K.Key.ordered g.met.K.Key.formed in
     let bs = bounds (listed x) in
     let found = c.search-slot.ensures in
-    let slot = found.place ∙ ap (λ es. search o c.args.key (bounds es)) same in
-    let is : Ascending o (front bs) → position gs (record { group = c.group_of-group.result; slot = c.search-slot.result }) ≡ search o c.args.key bs = λ up. by_groups o laws c.args.key gs (omega (arith, below)) x.full up (c.group_of-group.ensures.group up) slot in
+    let slot = found.place ∙ ap (λ es. search o (g.K.Key.kind.form c.args.key.now) (bounds es)) same in
+    let is : Ascending o (front bs) → position gs (record { group = c.group_of-group.result; slot = c.search-slot.result }) ≡ search o (g.K.Key.kind.form c.args.key.now) bs = λ up. by_groups o laws (g.K.Key.kind.form c.args.key.now) gs (omega (arith, below)) x.full up (c.group_of-group.ensures.group up) slot in
     record {
       within = within_of gs _ (below, omega (arith, found.within, ap length same));
       place = is;
-      first = λ up. then_first o c.args.key bs (is up) (leaves_some x);
-      only = λ p up f. then_only o c.args.key bs (is up) p f;
+      first = λ up. then_first o (g.K.Key.kind.form c.args.key.now) bs (is up) (leaves_some x);
+      only = λ p up f. then_only o (g.K.Key.kind.form c.args.key.now) bs (is up) p f;
     }

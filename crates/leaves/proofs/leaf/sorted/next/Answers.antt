@@ -1,11 +1,17 @@
+use Rattle.keys.proofs.WordLaws.{in_words_ordered}
 use Rattle.keys.specs.InWords.{in_words}
-use Rattle.std.proofs.Common.{◌∙◌, rules, tests}
-use Rattle.std.proofs.lemmas.Iterator.{YieldsList-from_slice}
-use Rattle.std.proofs.lemmas.Iterator.Search.{find_from_yields_List}
-use Rattle.leaves.specs.declared.leaf.Pair.{Pair}
+use Rattle.std.proofs.Common.{◌≡◌, ◌+◌, ◌-◌, [], drop, sym, ap, ◌∙◌, arith}
+use Rattle.std.proofs.lemmas.List.{take_rest}
+use Rattle.leaves.specs.Pairs.{first_after, folded}
+use Rattle.leaves.proofs.NextLaws.{next_turn}
 use Rattle.leaves.proofs.leaf.sorted.next.Goals as goal
 
-pub returns : goal.returns
-returns g c =
-    c.copied.ensures
-    ∙ find_from_yields_List (λ (p : Pair). (in_words g.K.Key.kind).before c.args.key p.key) _ _ c.find.result c.find.ensures.ran (YieldsList-from_slice c.args.pairs.now cc) (λ x b q k. search (rules, tests))
+pub loop-slot-preserved : goal.loop-slot-preserved
+loop-slot-preserved g c =
+    let o = in_words g.K.Key.kind in
+    let ordered = in_words_ordered g.K.Key.kind g.met.K.Key.ordered g.met.K.Key.formed in
+    let es = c.args.elements.now in
+    let l = c.loop-slot in
+    let one : l.slot - 1 + 1 ≡ l.slot = omega (arith, c.loop-slot-test.true) in
+    let best = l.invariant ∙ ap (λ n. first_after o c.args.key (folded o [] (drop n es))) (sym one) in
+    (rw (best, take_rest es (l.slot - 1 + 1)) at c.nearest-best.ensures) ∙ sym (next_turn o ordered c.args.key es (l.slot - 1) _ (omega (arith, c.loop-slot-test.true, l.auto.slot)))

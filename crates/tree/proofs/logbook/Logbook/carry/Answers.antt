@@ -1,24 +1,18 @@
-use Rattle.std.proofs.Common.{◌+◌, ◌<◌, ◌≤◌, [], length, sym, ap, ◌∙◌, arith}
+use Rattle.std.proofs.Common.{◌+◌, ◌<◌, ◌≤◌, length, refl, sym, ap, ◌∙◌, arith}
 use Rattle.std.proofs.lemmas.Bool.Decides.{nat_tests}
 use Rattle.std.proofs.lemmas.List.{nil_from_length}
-use Rattle.fixed_vec.specs.Items.{items}
 use Rattle.keys.specs.InWords.{in_words}
 use Rattle.keys.proofs.WordLaws.{in_words_ordered}
-use Rattle.leaves.specs.Layout.{count_of}
-use Rattle.leaves.proofs.ElementLaws.{pairs_folded}
 use Rattle.plans.specs.Deeds.{done, key_of}
-use Rattle.leaves.specs.Pairs.{folded}
+use Rattle.plans.specs.Plan.{pairs_of}
 use Rattle.tree.specs.Halting.{ended, state_after}
 use Rattle.tree.specs.Turning.{ending}
 use Rattle.tree.specs.Shape.{shape_of}
 use Rattle.appends.specs.Append.{append_lines}
 use Rattle.writes.specs.Writes.{perform}
 use Rattle.tree.proofs.CarryLaws.{appended, nothing_done, rewritten_is}
-use Rattle.tree.proofs.TurnLaws.{elements_here, leaf_within, same_elements}
-use Rattle.tree.proofs.LocatedLaws.{never_ok}
-use Rattle.std.proofs.Common.{Ok, Err}
-use Rattle.std.proofs.lemmas.Result.{err_from_is_err_and}
-use Rattle.tree.proofs.AnywhereLaws.{append_answered, declines, read_own, stays}
+use Rattle.tree.proofs.TurnLaws.{leaf_within}
+use Rattle.tree.proofs.AnywhereLaws.{append_answered, declines, stays}
 use Rattle.tree.specs.declared.logbook.State.TheVariants.{Open}
 use Rattle.tree.proofs.logbook.Logbook.carry.Goals as goal
 
@@ -57,26 +51,10 @@ returns g c =
     let o = in_words g.K.Key.kind in
     let laws = in_words_ordered g.K.Key.kind g.met.K.Key.ordered g.met.K.Key.formed in
     let m = g.M.Memory.meaning c.args.self.now.memory in
-    let taken = c.args.self.now.taken in
     record {
       done = λ x open_is work read is.
           let some : 0 < length c.args.list.now = grind (arith, nat_tests) in
-          let got = same_elements c.in_ok-elements.elements _ (elements_here o laws m.live x (key_of c.args.deed) c.args.home work (Ok c.in_ok-elements.elements) c.in_ok-elements.ensures.value) in
-          let pairs = c.pairs_after.ensures.value ∙ ap (done o c.args.deed) (ap (folded o []) got ∙ sym (pairs_folded o m.live c.args.home.leaf (count_of m.live c.args.home.leaf))) in
-          (rw (c.call.ensures, c.elements_in.ensures.same) at c.rewrite.ensures.done) x (key_of c.args.deed) open_is work (λ e. c.pairs_after.ensures.fits e)
-          ∙ rewritten_is o laws m x taken c.args.deed c.args.home work c.args.list.now is some (grind (arith, nat_tests)) (items c.pairs_after.result) pairs;
-      any = λ x open_is within. (rw (c.call.ensures, c.elements_in.ensures.same) at c.rewrite.ensures.any) x open_is (λ e. c.pairs_after.ensures.fits e);
-    }
-
-pub returns-in_err-elements : goal.returns-in_err-elements
-returns-in_err-elements g c =
-    let o = in_words g.K.Key.kind in
-    let laws = in_words_ordered g.K.Key.kind g.met.K.Key.ordered g.met.K.Key.formed in
-    let m = g.M.Memory.meaning c.args.self.now.memory in
-    record {
-      done = λ x open_is work read is.
-          never_ok c.in_err-elements.field-0.0 (sym (elements_here o laws m.live x (key_of c.args.deed) c.args.home work (Err c.in_err-elements.field-0.0) c.in_err-elements.ensures.value));
-      any = λ x open_is within.
-          let p = err_from_is_err_and c.from_residual.result c.from_residual.ensures.1 in
-          rw (p.1, p.2, c.elements_in.ensures.same, open_is) (declines m (Open x) c.args.self.now.taken c.in_err-elements.field-0.0 (read_own m.live c.args.home.leaf c.in_err-elements.field-0.0 c.in_err-elements.ensures.value));
+          c.carry_anew.ensures.done x open_is work
+          ∙ rewritten_is o laws m x c.args.self.now.taken c.args.deed c.args.home work c.args.list.now is some (grind (arith, nat_tests)) (done o c.args.deed (pairs_of o m.live c.args.home.leaf)) refl;
+      any = λ x open_is within. c.carry_anew.ensures.any x open_is;
     }

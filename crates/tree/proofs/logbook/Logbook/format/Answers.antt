@@ -9,7 +9,7 @@ returns-in-Ok-clause-sound g c =
     let o = in_words g.K.Key.kind in
     let laws = in_words_ordered g.K.Key.kind g.met.K.Key.ordered g.met.K.Key.formed in
     let m = g.M.Memory.meaning c.args.self.now.memory in
-    sound_formatted o laws c.args.self.now.state m c.args.leaves _ _ c.alone-self.result c.in_ok-can_format.ensures (ran o m _ c.args.leaves _ _ _ c.code.ensures (c.in-Ok.ensures (omega arith))) c.alone-self.ensures
+    sound_formatted o laws c.args.self.now.state m c.args.leaves _ _ c.make_alone.new.state c.in_ok-can_format.ensures (ran o m _ c.args.leaves _ _ _ c.code.ensures (c.in-Ok.ensures (omega arith))) c.make_alone.ensures
 
 pub returns-in-Ok-clause-cut : goal.returns-in-Ok-clause-cut
 returns-in-Ok-clause-cut g c =

@@ -1,8 +1,10 @@
 use Rattle.std.proofs.Common.{length, refl, sym, ap, ◌∙◌, subst, ⊎_elim, arith}
 use Rattle.std.proofs.lemmas.Bool.{true≢false}
+use Rattle.std.proofs.lemmas.List.{length-map}
 use Rattle.std.proofs.lemmas.Result.{err_from_is_err_and}
 use Rattle.memory.specs.Meaning.{size_of}
 use Rattle.leaves.specs.Layout.{word}
+use Rattle.index.specs.declared.node.Entry.{Entry}
 use Rattle.index.specs.declared.table.Index.{Index}
 use Rattle.index.specs.Meaning.{grouped, listed}
 use Rattle.index.specs.Nodes.{numbers}
@@ -25,7 +27,7 @@ returns-then-not-has_leaf-clause-leaf g c = λ x open_is.
     let told = c.in_ok-leaves.ensures in
     let there = same_index c.in_ok-index.index.now x (sym c.in_ok-index.ensures ∙ told.state ∙ open_is) in
     let leaf = taken_is c.in_ok-leaves.leaves (word m.live 3) _ (numbers (listed x)) _ c.args.self.now.taken c.next_free.result c.unwrap_or-leaf.result c.next_free.ensures c.unwrap_or-leaf.ensures (told_ok m c.in_ok-leaves.leaves told.value)
-    (c.as_slice.ensures.value ∙ c.used-linked.ensures ∙ ap (λ (i : Index). numbers (listed i)) there) told.taken in
+    (ap (λ (i : Index). numbers (listed i)) there) told.taken in
     let size = c.size-size.ensures ∙ ap size_of told.same in
     let link = subst (λ (i : Index). Links (leaf_of (grouped i) (place_before (grouped i) c.args.place)) c.link_word-at.result) there c.link_word-at.ensures in (
       refl,
@@ -40,14 +42,13 @@ returns-clause-leaf g c = λ x open_is.
     let m = g.M.Memory.meaning c.args.self.now.memory in
     let told = c.in_ok-leaves.ensures in
     let there = same_index c.in_ok-index.index.now x (sym c.in_ok-index.ensures ∙ told.state ∙ open_is) in
-    let row = c.used-linked.ensures ∙ ap (λ (i : Index). numbers (listed i)) there in
     let leaf = taken_is c.in_ok-leaves.leaves (word m.live 3) _ (numbers (listed x)) _ c.args.self.now.taken c.next_free.result c.unwrap_or-leaf.result c.next_free.ensures c.unwrap_or-leaf.ensures (told_ok m c.in_ok-leaves.leaves told.value)
-    (c.as_slice.ensures.value ∙ row) told.taken in
+    (ap (λ (i : Index). numbers (listed i)) there) told.taken in
     let size = c.size-size.ensures ∙ ap size_of told.same in
     let link = subst (λ (i : Index). Links (leaf_of (grouped i) (place_before (grouped i) c.args.place)) c.link_word-at.result) there c.link_word-at.ensures in (
       record {
         leaves = told_ok m c.in_ok-leaves.leaves told.value;
-        linked = c.len.ensures.value ∙ ap length row;
+        linked = c.len.ensures ∙ ap (λ (i : Index). length (listed i)) there ∙ sym (length-map (listed x) (λ (e : Entry). e.to));
         leaf = leaf;
         at = link;
       },

@@ -22,7 +22,7 @@ pub loop-place-init : goal.loop-place-init
 loop-place-init g c =
     let o = in_words g.K.Key.kind in
     let laws = in_words_ordered g.K.Key.kind g.met.K.Key.ordered g.met.K.Key.formed in
-    let at = c.in_ok-place_for.ensures in
+    let at = rw (sym c.pack-words.ensures) at c.in_ok-place_for.ensures in
     let s = c.args.self.now.state in
     (refl, refl, refl, stands_located o s _ _ at, λ h. next_from o laws _ s _ _ at h)
 

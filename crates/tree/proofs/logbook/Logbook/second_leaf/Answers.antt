@@ -13,12 +13,12 @@ pub returns-then-not-has_leaf : goal.returns-then-not-has_leaf
 returns-then-not-has_leaf g c = λ x open_is.
     let there = same_index c.in_ok-index.index.now x (sym c.in_ok-index.ensures ∙ open_is) in
     let leaf = taken_is c.args.new.now.leaves c.args.new.now.leaves _ (c.args.new.now.leaf ∷ numbers (listed x)) _ (Some c.args.new.now.leaf) c.next_free.result c.unwrap_or-second.result c.next_free.ensures c.unwrap_or-second.ensures refl
-    (c.as_slice.ensures.value ∙ c.used-linked.ensures ∙ ap (λ (i : Index). c.args.new.now.leaf ∷ numbers (listed i)) there) refl in
+    (ap (λ (i : Index). c.args.new.now.leaf ∷ numbers (listed i)) there) refl in
     rw (sym leaf, sym c.size.ensures) (sym (cond-false (has_leaf c.size.result c.unwrap_or-second.result) (Ok c.unwrap_or-second.result) (Err Outside) (sym c.if-not-has_leaf.ensures)))
 
 pub returns : goal.returns
 returns g c = λ x open_is.
     let there = same_index c.in_ok-index.index.now x (sym c.in_ok-index.ensures ∙ open_is) in
     let leaf = taken_is c.args.new.now.leaves c.args.new.now.leaves _ (c.args.new.now.leaf ∷ numbers (listed x)) _ (Some c.args.new.now.leaf) c.next_free.result c.unwrap_or-second.result c.next_free.ensures c.unwrap_or-second.ensures refl
-    (c.as_slice.ensures.value ∙ c.used-linked.ensures ∙ ap (λ (i : Index). c.args.new.now.leaf ∷ numbers (listed i)) there) refl in
+    (ap (λ (i : Index). c.args.new.now.leaf ∷ numbers (listed i)) there) refl in
     rw (sym leaf, sym c.size.ensures) (sym (cond-true (has_leaf c.size.result c.unwrap_or-second.result) (Ok c.unwrap_or-second.result) (Err Outside) (sym c.if-not-has_leaf.ensures)))

@@ -41,7 +41,7 @@ begun g c x work =
     let laws = in_words_ordered g.K.Key.kind g.met.K.Key.ordered g.met.K.Key.formed in
     let m = (g.M.Memory.meaning c.args.self.now.memory).live in
     let w = key_of c.args.deed in
-    let s = seen_here o laws m x w c.in_ok-home.home work c.in_ok-seen.seen w (c.in_ok-seen.ensures.value ∙ ap (λ k. counted m c.in_ok-home.home.leaf (seen m c.in_ok-home.home.leaf k)) c.key-2.ensures) in
+    let s = seen_here o laws m x w c.in_ok-home.home work c.in_ok-seen.seen w (c.in_ok-seen.ensures.value ∙ ap (λ k. counted m c.in_ok-home.home.leaf (seen m c.in_ok-home.home.leaf k)) c.key.ensures) in
     record {
       work = work;
       read = ap (λ (v : Seen). v.count) s;
@@ -49,7 +49,7 @@ begun g c x work =
     }
 
 home_in : (g : Over) (c : After-wish g) → HomeIn (in_words g.K.Key.kind) c.args.self.now.state (key_of c.args.deed) c.in_ok-home.home
-home_in g c = subst (λ w. HomeIn (in_words g.K.Key.kind) c.args.self.now.state w c.in_ok-home.home) c.key.ensures c.in_ok-home.ensures
+home_in g c = subst (λ w. HomeIn (in_words g.K.Key.kind) c.args.self.now.state w c.in_ok-home.home) (sym c.requires) c.in_ok-home.ensures
 
 -- The call carried out.
 carried_out : (g : Over) (c : After-carry g) → Sound (in_words g.K.Key.kind) (g.M.Memory.meaning c.args.self.now.memory).live c.args.self.now.state
@@ -77,7 +77,7 @@ returns-in_err-seen-clause-ending g c h =
     let o = in_words g.K.Key.kind in
     let laws = in_words_ordered g.K.Key.kind g.met.K.Key.ordered g.met.K.Key.formed in
     let m = g.M.Memory.meaning c.args.self.now.memory in
-    let home = subst (λ w. HomeIn o c.args.self.now.state w c.in_ok-home.home) c.key.ensures c.in_ok-home.ensures in
+    let home = subst (λ w. HomeIn o c.args.self.now.state w c.in_ok-home.home) (sym c.requires) c.in_ok-home.ensures in
     at_work o m c.args.self.now.state c.args.self.now.taken c.args.deed c.in_ok-home.home (λ e s. ending (told c.from_residual-in_err-seen.result) (g.M.Memory.meaning c.look_in.new.memory) (shape_of s) c.args.self.now.taken ≡ e) home h
     (λ x is work. never_ok c.in_err-seen.field-0.0 (seen_never o laws m.live x (key_of c.args.deed) c.in_ok-home.home work c.in_err-seen.field-0.0 _ c.in_err-seen.ensures.value))
 
