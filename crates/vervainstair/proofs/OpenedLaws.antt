@@ -1,5 +1,5 @@
 -- The book of opened words, leaf by leaf.
-use Rattle.std.proofs.Common.{◌≡◌, ℕ, zero, suc, ◌+◌, ◌*◌, ◌<◌, ◌≤◌, Bool, List, [], ◌∷◌, ◌++◌, length, take, get_or, is_ok, if◌then◌else◌, OnOk, None, Ok, Err, Option, Result, sym, refl, ap, ◌∙◌, append-nil, arith}
+use Rattle.std.proofs.Common.{◌≡◌, ℕ, zero, suc, ◌+◌, ◌*◌, ◌<◌, ◌≤◌, Bool, List, [], ◌∷◌, ◌++◌, length, take, get_or, is_ok, if◌then◌else◌, OnOk, None, Ok, Err, Option, Result, sym, ap, ◌∙◌, append-nil, arith}
 use Rattle.std.proofs.lemmas.List.{take_more}
 use Rattle.fixed_vec.specs.Items.{items}
 use Rattle.fixed_vec.specs.declared.FixedVec.{FixedVec}

@@ -1,5 +1,5 @@
 -- The mixes that a cut may leave, by number.
-use Rattle.std.specs.Prelude.{◌≡◌, ℕ, ◌+◌, ◌/◌, ◌%◌, ◌^◌, ◌<◌, Bool, true, false, cond, not, ◌&&◌, List, [], ◌∷◌, length, nat_lt, ◌==◌, slice_index}
+use Rattle.std.specs.Prelude.{◌≡◌, ℕ, ◌+◌, ◌/◌, ◌%◌, ◌<◌, Bool, true, false, cond, not, ◌&&◌, List, [], ◌∷◌, length, nat_lt, ◌==◌, slice_index}
 use Rattle.memory.specs.Meaning.{odd_at}
 
 -- How many words are unsettled: live and firm word differ.

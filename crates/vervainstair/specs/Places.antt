@@ -3,7 +3,6 @@ use Rattle.std.specs.Prelude.{◌≡◌, ℕ, ◌+◌, ◌-◌, cond, length, So
 use Rattle.refusal.specs.declared.Refusal.{Refusal}
 use Rattle.refusal.specs.declared.Refusal.TheVariants.{WrongMark, OtherKind, LeafCount, BadLink, BadLeaf}
 use Rattle.leaves.specs.Layout.{leaf_at, slot_at}
-use Rattle.leaves.specs.declared.open.Fault.{Fault}
 use Rattle.vervainstair.specs.declared.opened.Opened.{Opened}
 use Rattle.vervainstair.specs.declared.inspect.fault.Place.{Place}
 use Rattle.vervainstair.specs.declared.damage_each.outcome.Outcome.{Outcome}

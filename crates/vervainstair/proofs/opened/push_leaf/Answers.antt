@@ -1,4 +1,4 @@
-use Rattle.std.proofs.Common.{ap, ◌∙◌}
+use Rattle.std.proofs.Common.{◌∙◌}
 use Rattle.keys.specs.InWords.{in_words}
 use Rattle.vervainstair.proofs.OpenedLaws.{pushed}
 use Rattle.vervainstair.proofs.opened.push_leaf.Goals as goal
