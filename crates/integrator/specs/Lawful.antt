@@ -3,15 +3,15 @@ use Rattle.std.specs.Prelude.{◌≡◌, ℕ, List, [], Ok, Option}
 use Rattle.keys.specs.InWords.{in_words}
 use Rattle.memory.specs.Meaning.{Words}
 use Rattle.plans.specs.Told.{by_rule}
-use Rattle.histories.specs.PlainBook.{plain}
 use Rattle.histories.specs.Outcome.{State}
 use Rattle.histories.specs.Histories.{Event, History}
-use Rattle.histories.specs.Law.{HistoryLaw, after_format}
+use Rattle.histories.specs.Law.{HistoryLaw, account_of, after_format}
 use Rattle.writes.specs.Writes.{Answer}
 use Rattle.tree.specs.declared.logbook.State.TheVariants.{Blank}
 use Rattle.tree.specs.Formatting.{format_run}
 use Rattle.session.specs.declared.act.Act.{Act}
 use Rattle.session.specs.declared.act.Told.{Told}
+use Rattle.session.specs.Grouping.{formatted_index}
 use Rattle.session.specs.Playing.{Played, events}
 use Rattle.own_key.specs.GpsTimes.{gps_kind}
 use Rattle.own_key.specs.declared.gps.GpsTime.{GpsTime}
@@ -33,6 +33,6 @@ formatted steps leaves = after_format (in_words gps_kind) (device steps) leaves
 pub record PlayedLawfully (steps leaves : ℕ) (choices : List ℕ) (acts : List (Act GpsTime)) (told : List Told) : Type 0 where
   pub granted : format_answer steps leaves ≡ Ok tt
   pub happened : List (Option Event)
-  pub played : Played gps_kind choices (formatted steps leaves) acts happened told
+  pub played : Played gps_kind choices (formatted_index (in_words gps_kind) (device steps) leaves) acts happened told
   pub history : History by_rule (in_words gps_kind) (formatted steps leaves) (events happened)
-  pub law : HistoryLaw by_rule (in_words gps_kind) (formatted steps leaves) (plain []) (events happened)
+  pub law : HistoryLaw by_rule (in_words gps_kind) (formatted steps leaves) (account_of []) (events happened)
