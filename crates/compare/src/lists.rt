@@ -3,9 +3,9 @@ use crate::call::Call;
 use crate::calls::{any_call, any_cut, choices};
 use crate::dice::Dice;
 use crate::kinds::Kind;
-use crate::layers::Layer;
 use crate::layout::needed;
 use crate::moods::{any_mood, first_mood, next_number, weighed};
+use crate::shown::Layer;
 use std::alloc::{AllocError, Global};
 
 // A make under layers. No number of steps: a through memory, and then the firm words are not used.

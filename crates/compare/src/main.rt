@@ -14,13 +14,13 @@ mod answer;
 mod book;
 mod call;
 mod calls;
+mod chain;
 mod check;
 mod damage;
 mod dice;
 mod difference;
 mod direct;
 mod kinds;
-mod layers;
 mod layout;
 mod lists;
 mod makings;
@@ -30,9 +30,9 @@ mod opening;
 mod piles;
 mod plan;
 mod session_play;
+mod shown;
 mod tally;
 mod told;
-mod tree;
 mod words;
 
 // One list and damaged copies of what it leaves, all from one number. Where there is a difference the list is played again and compared

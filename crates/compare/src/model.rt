@@ -2,12 +2,12 @@
 use crate::answer::Answer;
 use crate::book::{Book, Pair};
 use crate::call::{Call, choices_from};
+use crate::chain::{Leaf, Tree};
 use crate::kinds::{Kind, Words};
 use crate::layout::needed;
 use crate::opening::{Opening, open_words};
 use crate::plan::{Deed, Plan, format_steps, plan_of};
 use crate::tally::{Fate, Tally};
-use crate::tree::{Leaf, Tree};
 use crate::words::{Memory, NO_POWER, OUTSIDE};
 use std::alloc::{AllocError, Global};
 

@@ -1,8 +1,8 @@
 // Opening, by the rules: what the words hold, or the first fault.
 use crate::book::{Book, Pair};
+use crate::chain::{Leaf, Tree};
 use crate::kinds::{Kind, Words};
 use crate::layout::{MARK, leaf_word, needed, slot_word};
-use crate::tree::{Leaf, Tree};
 use crate::words::Memory;
 use std::alloc::{AllocError, Global};
 

@@ -1,7 +1,7 @@
 // The make of a setting under its layers, for whatever is done with a memory.
 use crate::kinds::Kind;
-use crate::layers::Layer;
 use crate::lists::Setting;
+use crate::shown::Layer;
 use keys::Key;
 use keys::port::Port;
 use keys::stamp::Stamp;

@@ -1,8 +1,8 @@
 // What a put, change or remove writes, and the chain after it, by the rules.
 use crate::book::{Book, Pair};
+use crate::chain::{Leaf, Tree};
 use crate::kinds::{Kind, Words};
 use crate::layout::{leaf_word, slot_word};
-use crate::tree::{Leaf, Tree};
 use crate::words::Step;
 use std::alloc::{AllocError, Global};
 

@@ -1,5 +1,5 @@
 // A memory as plain words, by the rules: live and firm, and the steps left.
-use crate::layers::{Layer, places};
+use crate::shown::{Layer, places};
 use std::alloc::{AllocError, Global};
 
 pub const OUTSIDE: u64 = 1;
