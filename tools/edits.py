@@ -10,7 +10,7 @@ import re
 import sys
 
 ROOT = pathlib.Path(__file__).resolve().parent.parent
-VERDICT = re.compile(r"^rt: must-fail (\w+)/(\w+)\.edit: refused, as it must be: (.*)$")
+VERDICT = re.compile(r"^rt: must-fail (\w+)/(\w+)\.edit: refused, as it must be(?: \(only because [^:]*: [^)]*\))?: (.*)$")
 FUNCTION = re.compile(r"^\s*(?:pub(?:\([a-z]+\))? )?(?:ghost )?fn (\w+)")
 IMPL = re.compile(r"^impl(?:<[^{]*?>)? (?:(\w+)(?:<.*?>)? for )?(\w+)")
 
