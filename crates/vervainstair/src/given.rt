@@ -1,10 +1,10 @@
 // Scripts of the program's own: one whose last put splits a leaf, swept, and one whose words are told as an image and damaged.
-use crate::console::play::Console;
-use crate::damage_each::show_damages;
-use crate::inspect::inspect;
-use crate::sweep::{Manner, show_sweep};
+use console::play::Console;
+use inspect::damage::show_damages;
+use inspect::tell::inspect;
 use std::alloc::Global;
 use std::io::{self, BufWriter, Write};
+use sweep::show::{Manner, show_sweep};
 
 // 16 corrections fill a leaf, and the next one splits it.
 const SPLIT: &str = "

@@ -2,30 +2,22 @@
 //! Its arguments name other tasks: a sweep of a script's last call, and images of memories written, told and damaged.
 #![tactic(auto)]
 
-use args::{Task, task_of};
 use console::play::Console;
+use inspect::damage::show_damages;
+use inspect::tell::inspect;
+use script::args::{Task, task_of};
 use std::alloc::Global;
 use std::io::{self, BufReader, BufWriter, Read, Write};
 use std::rt::Runtime;
 use std::{env, fs};
-use sweep::{Manner, show_sweep};
+use sweep::show::{Manner, show_sweep};
 
-mod args;
-mod console;
 mod correction;
 mod cuts;
 mod damage;
-mod damage_each;
 mod dates;
 mod given;
-mod inspect;
-mod opened;
-mod parts;
-mod picture;
-mod pile;
-mod script;
 mod season;
-mod sweep;
 
 fn show_task(rt: &HostRuntime, alloc: Global) -> io::Result<()> {
     println!(rt; "Vervainstair: clock corrections in persistent memory")?;
@@ -73,14 +65,14 @@ fn image_to(rt: &HostRuntime, alloc: Global, path: &str) -> io::Result<()> {
 fn tell_image(rt: &HostRuntime, alloc: Global, path: &str) -> io::Result<()> {
     let octets = fs::read(rt, path)?;
     let mut out = BufWriter::new(alloc, io::writer(rt))?;
-    inspect::inspect(alloc, octets.as_slice(), &mut out)?;
+    inspect(alloc, octets.as_slice(), &mut out)?;
     out.flush()
 }
 
 fn tell_damages(rt: &HostRuntime, alloc: Global, path: &str) -> io::Result<()> {
     let octets = fs::read(rt, path)?;
     let mut out = BufWriter::new(alloc, io::writer(rt))?;
-    damage_each::show_damages(alloc, octets.as_slice(), &mut out)?;
+    show_damages(alloc, octets.as_slice(), &mut out)?;
     out.flush()
 }
 

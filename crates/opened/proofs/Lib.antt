@@ -1,0 +1,2 @@
+pub mod MixLaws
+pub mod OpenedLaws

@@ -1,0 +1,5 @@
+pub mod Mixes
+pub mod Openings
+pub mod Parts
+pub mod Places
+pub mod Verdicts

@@ -1,0 +1,3 @@
+pub mod Asking
+pub mod Forms
+pub mod Tasks

@@ -1,7 +1,0 @@
-use Rattle.std.proofs.Common.{rules}
-use Rattle.vervainstair.proofs.PileLaws.{piles}
-use Rattle.vervainstair.proofs.pile.piled.Goals as goal
-
-pub returns-clause-meaning : goal.returns-clause-meaning
-returns-clause-meaning g c h =
-    piles g.B.Memory.meaning c.args.layers.now c.new.result c.args.bottom (search rules) (search rules) (search rules) (search rules) (g.B.Memory.laws c.args.bottom) h
