@@ -6,7 +6,7 @@ use Rattle.refusal.specs.declared.Refusal.{Refusal}
 use Rattle.refusal.specs.declared.Refusal.TheVariants.{Outside, WrongLength}
 use Rattle.keys.specs.Kind.{Kind}
 use Rattle.keys.specs.InWords.{WordKind, WordOrdered, in_words}
-use Rattle.memory.specs.Meaning.{Words, after_settle, chosen, odd_at, renewed, settle_answer}
+use Rattle.memory.specs.Meaning.{Freely, Words, after_settle, chosen, odd_at, renewed, settle_answer}
 use Rattle.leaves.specs.declared.leaf.Pair.{Pair}
 use Rattle.leaves.specs.declared.open.Fault.{Fault}
 use Rattle.leaves.specs.Opening.{open_answer}
@@ -287,8 +287,8 @@ module _ {K : Type 0} (k : Kind K) (choices : List ℕ) (from steps : ℕ) (s : 
 
   cut_in : r ≡ cut_answer (in_words k) (settle_answer s.state.memory choice) later.live → m' ≡ later
       → shape_of b ≡ cut_shape (in_words k) (settle_answer s.state.memory choice) later.live (shape_of bk) → tk' ≡ cut_taken (settle_answer s.state.memory choice) tk
-      → CutTold k choices s from steps (heard_cut r) m' b tk'
-  cut_in answer memory state last =
+      → Freely s.state.memory → CutTold k choices s from steps (heard_cut r) m' b tk'
+  cut_in answer memory state last free =
       ⊎_elim
       (λ short.
       let e : settle_answer s.state.memory choice ≡ Err WrongLength = cond-true (ltb (length choice) s.state.memory.choosing.many) (Err WrongLength) (Ok tt) short in
@@ -311,7 +311,7 @@ module _ {K : Type 0} (k : Kind K) (choices : List ℕ) (from steps : ℕ) (s : 
       record {
         event = Some (cut_event now.live (renewed s.state.memory.power steps));
         rightly = (λ i. odd_at choice (s.state.memory.choosing.place i), refl);
-        happened = (e, refl, refl, ap heard_cut r_is ∙ opening_heard (open_answer (in_words k) now.live));
+        happened = (e, refl, refl, ap heard_cut r_is ∙ opening_heard (open_answer (in_words k) now.live), free);
         same = record {
           memory = sym (memory ∙ done);
           logbook = subst (λ l. Like b l (by_opening (in_words k) now.live (open_answer (in_words k) now.live)) (groups_opened (in_words k) now.live (by_opening (in_words k) now.live (open_answer (in_words k) now.live)))) (sym (last ∙ ap (λ a. cut_taken a tk) e)) (opened_like (in_words k) now.live (open_answer (in_words k) now.live) b shaped);
@@ -323,14 +323,15 @@ pub cut_told : {K : Type 0} (k : Kind K) (choices : List ℕ) (from steps : ℕ)
     → (r : Result (Result (Unit {0}) Fault) Refusal) (m' : Words) (b : Book) (tk' : Option ℕ)
     → r ≡ cut_answer (in_words k) (settle_answer m (drop from choices)) (after_settle m (drop from choices) steps).live → m' ≡ after_settle m (drop from choices) steps
     → shape_of b ≡ cut_shape (in_words k) (settle_answer m (drop from choices)) (after_settle m (drop from choices) steps).live (shape_of bk)
-    → tk' ≡ cut_taken (settle_answer m (drop from choices)) tk → CutTold k choices s from steps (heard_cut r) m' b tk'
-cut_told k choices from steps s m bk tk same r m' b tk' answer memory state last =
+    → tk' ≡ cut_taken (settle_answer m (drop from choices)) tk → Freely m → CutTold k choices s from steps (heard_cut r) m' b tk'
+cut_told k choices from steps s m bk tk same r m' b tk' answer memory state last free =
     let e = sym same.memory in
     cut_in k choices from steps s bk tk same.logbook r m' b tk'
     (subst (λ w. r ≡ cut_answer (in_words k) (settle_answer w (drop from choices)) (after_settle w (drop from choices) steps).live) e answer)
     (subst (λ w. m' ≡ after_settle w (drop from choices) steps) e memory)
     (subst (λ w. shape_of b ≡ cut_shape (in_words k) (settle_answer w (drop from choices)) (after_settle w (drop from choices) steps).live (shape_of bk)) e state)
     (subst (λ w. tk' ≡ cut_taken (settle_answer w (drop from choices)) tk) e last)
+    (subst Freely e free)
 
 -- What holds where a cut happened, and was kept where it did not.
 pub either_way : {A P Q : Type 0} (r : Result A Refusal) → MatchResult r (λ _. P) (λ _. Q → P) → Q → P

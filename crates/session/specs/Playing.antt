@@ -5,7 +5,7 @@ use Rattle.refusal.specs.declared.Refusal.{Refusal}
 use Rattle.refusal.specs.declared.Refusal.TheVariants.{Blank, NoPower, Outside, WrongLength}
 use Rattle.keys.specs.Kind.{Kind}
 use Rattle.keys.specs.InWords.{in_words}
-use Rattle.memory.specs.Meaning.{chosen, renewed, settle_answer}
+use Rattle.memory.specs.Meaning.{Freely, chosen, renewed, settle_answer}
 use Rattle.leaves.specs.declared.open.Fault.{Fault}
 use Rattle.leaves.specs.Opening.{open_answer}
 use Rattle.index.specs.declared.node.Entry.{Entry}
@@ -58,6 +58,7 @@ NodeTold (in_use tree) gs i t =
 NodeTold dark gs i t = t ≡ told.Refused NoPower
 
 -- What comes of an act in a state: a call, a question or a cut happens, and this is told of it. A node that is asked for is no event, and a cut with too few choices does not happen.
+-- At a cut that happens each word's choice can be any: for every mix of live and firm words there is a choice run that leaves it.
 abbrev pub Happened : {K : Type 0} → Kind K → List ℕ → Indexed → Act K → Option Event → Told → Type 0
 Happened k choices s (Put key r) (Some (called d a e)) t = (d ≡ deed.Put (k.form key) r) × (t ≡ steps_told a.result a.steps)
 Happened k choices s (Change key r) (Some (called d a e)) t = (d ≡ deed.Change (k.form key) r) × (t ≡ steps_told a.result a.steps)
@@ -67,7 +68,7 @@ Happened k choices s (Next key) (Some (asked q r)) t = (q ≡ next_after (k.form
 Happened k choices s Pairs (Some (asked q r)) t = (q ≡ pairs) × (t ≡ replied r)
 Happened k choices s (Node i) None t = NodeTold s.state.logbook s.groups i t
 Happened k choices s (Cut from steps) (Some (cut words power)) t =
-    (settle_answer s.state.memory (drop from choices) ≡ Ok tt) × (words ≡ (chosen s.state.memory (drop from choices) steps).live) × (power ≡ renewed s.state.memory.power steps) × (t ≡ opened_told (open_answer (in_words k) words))
+    (settle_answer s.state.memory (drop from choices) ≡ Ok tt) × (words ≡ (chosen s.state.memory (drop from choices) steps).live) × (power ≡ renewed s.state.memory.power steps) × (t ≡ opened_told (open_answer (in_words k) words)) × Freely s.state.memory
 Happened k choices s (Cut from steps) None t = (settle_answer s.state.memory (drop from choices) ≡ Err WrongLength) × (t ≡ told.Refused WrongLength)
 Happened k choices s _ _ t = ⊥
 

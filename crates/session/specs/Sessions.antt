@@ -56,7 +56,7 @@ pub record CarriedAll {K : Type 0} (k : Kind K) (choices : List ℕ) (s : Indexe
   pub sound : Sound (in_words k) m.live book
 
 -- THE PROMISE of a list played after a granted format: a history in which each act happened and this was told of it, and, where the
--- memory was settled before, the law of cuts at each event.
+-- memory was settled before, the law of cuts at each event. At each cut every mix of live and firm words could have been chosen.
 pub record Session {K : Type 0} (k : Kind K) (m : Words) (leaves : ℕ) (choices : List ℕ) (acts : List (Act K)) (answers : List Told) (memory : Words) : Type 0 where
   pub happened : List (Option Event)
   pub played : Played k choices (formatted_index (in_words k) m leaves) acts happened answers

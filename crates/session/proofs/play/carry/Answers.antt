@@ -108,7 +108,7 @@ pub returns-in-Cut : goal.returns-in-Cut
 returns-in-Cut g c s same sound =
     let m = g.M.Memory.meaning c.args.logbook.now.memory in
     let told = cut_told g.K.Key.kind c.args.choices.now c.in-Cut.from c.in-Cut.steps s m c.args.logbook.now.state c.args.logbook.now.taken same c.cut.result _ _ _
-    (rw c.choices_from.ensures at c.cut.ensures.answer) (rw c.choices_from.ensures at c.cut.ensures.memory) (rw c.choices_from.ensures at c.cut.ensures.state) (rw c.choices_from.ensures at c.cut.ensures.taken) in
+    (rw c.choices_from.ensures at c.cut.ensures.answer) (rw c.choices_from.ensures at c.cut.ensures.memory) (rw c.choices_from.ensures at c.cut.ensures.state) (rw c.choices_from.ensures at c.cut.ensures.taken) c.cut.ensures.free in
     record {
       event = told.event;
       rightly = told.rightly;
