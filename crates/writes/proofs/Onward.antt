@@ -111,12 +111,12 @@ module _ (m : Words) (j : ℕ) (ws : List LineWrite) (all : Run) (inv : onward j
   lines_end e = let z : j + 0 ≡ j = omega arith in cc
 
 -- What is left of consecutive words after their first eight, or fewer at the end, and what is left of their line writes.
-module _ (at next : ℕ) (ws line rest : List ℕ) (parts : ws ≡ line ++ rest) (long : length line ≡ min 8 (length ws)) (some : 0 < length ws) where
+module _ (ws line rest : List ℕ) (parts : ws ≡ line ++ rest) (long : length line ≡ min 8 (length ws)) (some : 0 < length ws) where
   sum : length ws ≡ length line + length rest
   sum = ap length parts ∙ length-append line rest
 
-  less : (length ws ≡ length line + length rest) × (lines_for (length ws) ≡ suc (lines_for (length rest))) × (length line ≤ 8) × (0 < length rest → length line ≡ 8)
-  less = let s = sum in (s, omega arith, omega arith, λ h. omega arith)
+  one_more : lines_for (length ws) ≡ suc (lines_for (length rest))
+  one_more = let s = sum in omega arith
 
   front : take 8 ws ≡ line
   front =
@@ -132,10 +132,6 @@ module _ (at next : ℕ) (ws line rest : List ℕ) (parts : ws ≡ line ++ rest)
       (λ many. rw parts (drop_at line rest 8 (omega arith)))
       (cases_lt (length ws) 8)
 
-pub line_less : (ws line rest : List ℕ) → ws ≡ line ++ rest → length line ≡ min 8 (length ws) → 0 < length ws
-    → (length ws ≡ length line + length rest) × (lines_for (length ws) ≡ suc (lines_for (length rest))) × (length line ≤ 8) × (0 < length rest → length line ≡ 8)
-line_less ws line rest parts long some = less 0 0 ws line rest parts long some
-
 -- No word, no line write.
 pub rows_over : (at : ℕ) (ws : List ℕ) → length ws ≡ 0 → rows (lines_for (length ws)) at ws ≡ []
 rows_over at ws none = let z : lines_for (length ws) ≡ 0 = omega arith in rw z refl
@@ -144,9 +140,9 @@ rows_over at ws none = let z : lines_for (length ws) ≡ 0 = omega arith in rw z
 pub rows_turn : (at next : ℕ) (ws line rest : List ℕ) → ws ≡ line ++ rest → length line ≡ min 8 (length ws) → 0 < length ws → (0 < length rest → next ≡ at + 8)
     → rows (lines_for (length ws)) at ws ≡ row at line ∷ rows (lines_for (length rest)) next rest
 rows_turn at next ws line rest parts long some on =
-    let one = line_less ws line rest parts long some in
-    let f = front at next ws line rest parts long some in
-    let b = back at next ws line rest parts long some in
+    let one = one_more ws line rest parts long some in
+    let f = front ws line rest parts long some in
+    let b = back ws line rest parts long some in
     let after : rows (lines_for (length rest)) (at + 8) rest ≡ rows (lines_for (length rest)) next rest =
     ⊎_elim (λ none. rw (rows_over (at + 8) rest (omega arith), rows_over next rest (omega arith)) refl) (λ more. rw (on (omega arith))) (cases_lt (length rest) 1) in
-    rw (one.1, f, b, after) refl
+    rw (one, f, b, after) refl

@@ -1,10 +1,8 @@
 -- Rows, consecutive words of one line each: where they go, what they spare, and what they leave.
-use Rattle.std.proofs.Common.{◌≡◌, ℕ, zero, suc, ◌+◌, ◌-◌, ◌*◌, ◌/◌, ◌%◌, ◌<◌, ◌≤◌, List, [], ◌∷◌, ◌++◌, length, get_or, take, drop, set, refl, ap, ◌∙◌, ⊎_elim, arith}
-use Rattle.std.proofs.lemmas.List.{length-drop, length-take, length-set, get_or-set_same, get_or-take, get_or-drop}
-use Rattle.std.proofs.lemmas.Bool.{cases_lt}
-use Rattle.writes.specs.Writes.{Store, LineWrite, cost, applied, finished, Spared, Lined, Proper, Spares, single, row_stores, row, rows, lines_for}
-use Rattle.writes.proofs.Mixes.{length_applied, applied_spared}
-use Rattle.writes.proofs.Cuts.{finished_spares}
+use Rattle.std.proofs.Common.{◌≡◌, ℕ, zero, suc, ◌+◌, ◌*◌, ◌/◌, ◌%◌, ◌<◌, ◌≤◌, List, [], ◌∷◌, ◌++◌, length, get_or, set, refl, ap, ◌∙◌, arith}
+use Rattle.std.proofs.lemmas.List.{length-set, get_or-set_same}
+use Rattle.writes.specs.Writes.{Store, LineWrite, cost, applied, finished, Spared, Lined, Proper, Spares, single, row_stores, row}
+use Rattle.writes.proofs.Mixes.{applied_spared}
 
 pub length_row_stores : (i : ℕ) (ws : List ℕ) → length (row_stores i ws) ≡ length ws
 length_row_stores i [] = refl
@@ -58,65 +56,3 @@ row_made words i (w ∷ ws) (suc k) h b =
     let e : i + suc k ≡ suc i + k = omega arith in
     let s = length-set words i w in
     rw e (row_made (set words i w) (suc i) ws k (omega arith) (omega arith))
-
--- Lines of consecutive words, from a line's first word on: proper, of one step for each word and each line, sparing all other words.
-pub rows_proper : (size i : ℕ) (ws : List ℕ) → i % 8 ≡ 0 → i + length ws ≤ size → Proper size (rows (lines_for (length ws)) i ws)
-rows_proper size i ws a b = of (lines_for (length ws)) i ws a (omega arith) refl
-  where
-    of : (k i : ℕ) (ws : List ℕ) → i % 8 ≡ 0 → length ws ≤ size - i → k ≡ lines_for (length ws) → Proper size (rows k i ws)
-    of zero i ws a b c = tt
-    of (suc k) i ws a b c =
-        let s = length-take 8 ws in
-        let d = length-drop 8 ws in
-        (omega arith, row_lined size (i / 8) i (take 8 ws) (omega arith) (omega arith) (omega arith), of k (i + 8) (drop 8 ws) (omega arith) (omega arith) (omega arith))
-
-pub rows_cost : (i : ℕ) (ws : List ℕ) → cost (rows (lines_for (length ws)) i ws) ≡ length ws + lines_for (length ws)
-rows_cost i ws = of (lines_for (length ws)) i ws refl
-  where
-    of : (k i : ℕ) (ws : List ℕ) → k ≡ lines_for (length ws) → cost (rows k i ws) ≡ length ws + k
-    of zero i ws c = omega arith
-    of (suc k) i ws c =
-        let s = length-take 8 ws in
-        let d = length-drop 8 ws in
-        let r = length_row_stores i (take 8 ws) in
-        omega (arith, of k (i + 8) (drop 8 ws) (omega arith))
-
-pub rows_spare_before : (j k i : ℕ) (ws : List ℕ) → j < i → Spares j (rows k i ws)
-rows_spare_before j zero i ws h = tt
-rows_spare_before j (suc k) i ws h = (row_spared j i (take 8 ws) h, rows_spare_before j k (i + 8) (drop 8 ws) (omega arith))
-
-pub rows_spare_after : (j k i : ℕ) (ws : List ℕ) → i + length ws ≤ j → Spares j (rows k i ws)
-rows_spare_after j k i ws h = of k i ws (omega arith)
-  where
-    past : (i : ℕ) (ws : List ℕ) → length ws ≤ j - i → Spared j (row_stores i ws)
-    past i [] h = tt
-    past i (w ∷ ws) h = ((λ e. omega arith), past (suc i) ws (omega arith))
-
-    of : (k i : ℕ) (ws : List ℕ) → length ws ≤ j - i → Spares j (rows k i ws)
-    of zero i ws h = tt
-    of (suc k) i ws h =
-        let s = length-take 8 ws in
-        let d = length-drop 8 ws in
-        (past i (take 8 ws) (omega arith), of k (i + 8) (drop 8 ws) (omega arith))
-
--- The words of the lines once they are made.
-pub rows_made : (words : List ℕ) (i : ℕ) (ws : List ℕ) (j : ℕ) → i + length ws ≤ length words → j < length ws
-    → get_or (finished words (rows (lines_for (length ws)) i ws)) (i + j) 0 ≡ get_or ws j 0
-rows_made words i ws j h b = of (lines_for (length ws)) words i ws j h b refl
-  where
-    of : (k : ℕ) (words : List ℕ) (i : ℕ) (ws : List ℕ) (j : ℕ) → i + length ws ≤ length words → j < length ws → k ≡ lines_for (length ws)
-        → get_or (finished words (rows k i ws)) (i + j) 0 ≡ get_or ws j 0
-    of zero words i ws j h b c = absurd (omega arith)
-    of (suc k) words i ws j h b c =
-        let s = length-take 8 ws in
-        let d = length-drop 8 ws in
-        let first = applied words (row_stores i (take 8 ws)) in
-        let long : length first ≡ length words = length_applied words (row_stores i (take 8 ws)) in
-        ⊎_elim
-        (λ low. finished_spares first (rows k (i + 8) (drop 8 ws)) (i + j) (rows_spare_before (i + j) k (i + 8) (drop 8 ws) (omega arith))
-        ∙ (row_made words i (take 8 ws) j (omega arith) (omega arith) ∙ get_or-take 8 ws j 0 low))
-        (λ high.
-        let back : i + j ≡ (i + 8) + (j - 8) = omega arith in
-        let there : 8 + (j - 8) ≡ j = omega arith in
-        rw back (of k first (i + 8) (drop 8 ws) (j - 8) (omega arith) (omega arith) (omega arith)) ∙ (get_or-drop 8 ws (j - 8) 0 ∙ rw there))
-        (cases_lt j 8)

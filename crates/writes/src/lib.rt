@@ -2,7 +2,7 @@
 #![tactic(auto)]
 
 ghost use Rattle.std.specs.Prelude.{◌≡◌, ◌+◌, ◌^◌, ◌<◌, ◌≤◌, [], ◌∷◌, length};
-ghost use Rattle.writes.specs.Writes.{lines_for, onward, outcome, perform, row, rows};
+ghost use Rattle.writes.specs.Writes.{onward, outcome, perform, row};
 ghost use Rattle.writes.specs.Laws.{Commit, FirstSteps, InTurn, Kept, More, Observed, PowerAlone, Short, Whole};
 
 use memory::Memory;
@@ -24,25 +24,6 @@ pub fn write_row<M: Memory>(
     }
     memory.flush(first / 8)?;
     *steps = steps.saturating_add(1);
-    Ok(())
-}
-
-// Stores consecutive words from a line's first word on and flushes each line after its words, until the first refusal.
-// Granted steps are counted.
-pub fn write_lines<M: Memory>(
-    memory: &mut M,
-    steps: &mut usize,
-    first: usize,
-    words: &[u64],
-) -> Result<(), Refusal>
-    ensures done { first + length words.now < 2 ^ 64 → steps.old + length words.now + lines_for (length words.now) < 2 ^ 64 → outcome (M.Memory.meaning memory.new) steps.new result ≡ onward steps.old (perform (M.Memory.meaning memory.old) (rows (lines_for (length words.now)) first words.now)) }
-    ensures few { steps.new ≤ steps.old + length words.now + lines_for (length words.now) }
-{
-    let mut at = first;
-    for line in words.chunks(8) {
-        write_row(memory, steps, at, line)?;
-        at = at.saturating_add(8);
-    }
     Ok(())
 }
 
