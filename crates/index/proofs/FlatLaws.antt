@@ -1,40 +1,11 @@
--- The numbers of all leaves and the bounds between them, listed node by node, and what a change of a leaf does to them.
-use Rattle.std.proofs.Common.{◌≡◌, ℕ, zero, suc, ◌+◌, ◌<◌, ◌≤◌, true, false, ◌||◌, eqb, List, [], ◌∷◌, ◌++◌, map, length, get_or, take, drop, sym, refl, ap, ◌∙◌, append_assoc, length-append, arith}
-use lib.ListN.{length-map}
-use Rattle.std.proofs.lemmas.List.{drop_more, map-append}
+-- What a change of a leaf does to the numbers of all leaves and to the bounds between them, and in which nodes a leaf is.
+use Rattle.std.proofs.Common.{◌≡◌, ℕ, zero, suc, ◌+◌, ◌<◌, true, false, ◌||◌, eqb, List, [], ◌∷◌, ◌++◌, map, length, take, drop, sym, refl, ap, ◌∙◌, arith}
 use Rattle.std.specs.List.{list_any}
 use Rattle.index.specs.declared.node.Entry.{Entry}
 use Rattle.index.specs.declared.node.Node.{Node}
-use Rattle.index.specs.declared.table.Index.{Index}
 use Rattle.index.specs.Nodes.{bounds, holds, items, numbers, parted, renamed, joined}
 use Rattle.index.specs.Search.{concat, front}
-use Rattle.index.specs.Meaning.{grouped, listed}
 use Rattle.index.proofs.ChangeLaws.{bounds_renamed, length_parted}
-
-pub length_listed : (x : Index) → length (listed x) ≤ 64
-unfolding grouped
-length_listed x = omega (arith, x.counted.0, x.counted.1)
-
--- Some numbers, and after them those of the groups from group g on.
-module _ (gs : List (List Entry)) (g : ℕ) (out : List ℕ) (all : List Entry) (rest : out ++ numbers (concat (drop g gs)) ≡ numbers all) (h : g < length gs) (part : List Entry) (is : part ≡ get_or gs g []) where
-  here : out ++ (numbers part ++ numbers (concat (drop (g + 1) gs))) ≡ numbers all
-  here =
-      ap (λ xs. out ++ xs) (sym (map-append (λ (e : Entry). e.to) part (concat (drop (g + 1) gs))) ∙ ap (λ es. numbers (es ++ concat (drop (g + 1) gs))) is ∙ ap (λ es. numbers (concat es)) (sym (drop_more gs g [] h))) ∙ rest
-
-  pub numbers_room : length all ≤ 64 → length out + length part ≤ 64
-  numbers_room few =
-      omega (
-        arith,
-        few,
-        ap length here,
-        length-append out (numbers part ++ numbers (concat (drop (g + 1) gs))),
-        length-append (numbers part) (numbers (concat (drop (g + 1) gs))),
-        length-map part (λ (e : Entry). e.to),
-        length-map all (λ (e : Entry). e.to),
-      )
-
-  pub numbers_turn : {more : List ℕ} → more ≡ out ++ numbers part → more ++ numbers (concat (drop (g + 1) gs)) ≡ numbers all
-  numbers_turn push = rw push (append_assoc out (numbers part) (numbers (concat (drop (g + 1) gs))) ∙ here)
 
 front_bounds : (e : Entry) (es : List Entry) → 0 < length es → front (bounds (e ∷ es)) ≡ e.bound ∷ front (bounds es)
 front_bounds e [] h = absurd (omega arith)

@@ -1,7 +1,6 @@
 // All leaves in their order, and changes that build the index anew.
-ghost use Rattle.std.specs.Prelude.{◌≡◌, ◌+◌, ◌<◌, ◌≤◌, ◌++◌, true, length, Some, slice_set};
-ghost use Rattle.fixed_vec.specs.Items.{items as items_of};
-ghost use Rattle.index.specs.Nodes.{items, chained, holds, numbers, parted, joined};
+ghost use Rattle.std.specs.Prelude.{◌≡◌, ◌≤◌, true, length, Some, slice_set};
+ghost use Rattle.index.specs.Nodes.{items, chained, holds, parted, joined};
 ghost use Rattle.index.specs.Search.{concat};
 ghost use Rattle.index.specs.Keeping.{AscendsWith, AscendsStill};
 ghost use Rattle.index.specs.Shape.{singles};
@@ -13,16 +12,6 @@ use crate::node::fill::empty;
 use crate::node::{Entry, Node};
 use fixed_vec::FixedVec;
 
-// Puts the numbers of a node's leaves after others, where there is room.
-fn push_numbers(all: &mut FixedVec<usize, 64>, leaves: &[Entry])
-    requires { length (items_of all.old) + length leaves.now ≤ 64 }
-    ensures { items_of all.new ≡ items_of all.old ++ numbers leaves.now }
-{
-    for leaf in leaves {
-        all.push(leaf.to).unwrap();
-    }
-}
-
 // Whether a leaf is one of a node's.
 pub(crate) fn has_leaf(node: &Node, leaf: usize) -> bool
     ensures { result ≡ holds leaf (items node.now) }
@@ -31,17 +20,6 @@ pub(crate) fn has_leaf(node: &Node, leaf: usize) -> bool
 }
 
 impl Index {
-    // The numbers of all leaves in their order.
-    pub fn numbers(&self) -> FixedVec<usize, 64>
-        ensures { items_of result ≡ numbers (listed self.now) }
-    {
-        let mut all = FixedVec::new(0);
-        for node in self.groups() {
-            push_numbers(&mut all, node.entries.as_slice());
-        }
-        all
-    }
-
     // All leaves, with another node in the place of a group's.
     fn list_with(&self, at: usize, other: &Node) -> FixedVec<Entry, 64>
         requires { length (concat (slice_set (grouped self.now) at (items other.now))) ≤ 64 }
