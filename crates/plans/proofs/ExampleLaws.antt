@@ -13,6 +13,10 @@ example_holds = record {
   split = record { steps = refl; tree = refl; head = refl; left = refl; right = refl };
   replace = record { steps = refl; tree = refl };
   merge = record { removed = refl; steps = refl; tree = refl };
+  count = record { next = refl; tree = refl };
+  append = record { none = refl; steps = refl; tree = refl };
+  rule = record { counts_ten = refl; counts_nine = refl; counts_eight = refl; put_of_nine = refl; remove_of_nine = refl };
+  free = record { round = refl; past_all = refl; none = refl; up = refl; around = refl };
   crowded = refl;
   lacks = record { full = refl; splits = (8, refl); few = few };
   put_steps = refl;

@@ -55,7 +55,7 @@ pub fn free_leaves_stand()
     ensures all { AllCandidates }
 {}
 
-// The worked rewrites: a split, a replacement, a merge, and a split that lacks room.
+// The worked rewrites: a split, a replacement, a merge, and a split that lacks room; and on plain numbers the rule and the order of free leaves.
 pub fn example_stands()
     ensures { Example }
 {}
