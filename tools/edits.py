@@ -1,7 +1,7 @@
 #!/usr/bin/env python3
 """Writes docs/EDITS.md: each edit that must fail, what it turns, and the contract that refused it.
 
-    .ci/run 2>&1 | tee gate.log; tools/edits.py gate.log [more logs]
+    .ci/run 2>&1 | tee gate.log; tools/planted 2>&1 | tee planted.log; tools/edits.py gate.log planted.log
 
 The verdicts are taken from the lines `rt: must-fail` of the logs; a later log wins over an earlier one.
 """
@@ -83,18 +83,20 @@ def main():
         "# The edits that must fail",
         "",
         "Each row is a mistake planted in the code, one at a time: what stood, what was put in its place, and the function whose contract, or",
-        "whose loop, was refused then. The gate tries all of them. Made by `tools/edits.py` from the gate's log.",
+        "whose loop, was refused then. The gate tries all of them but those with a star, which `tools/planted` tries. Made by `tools/edits.py` from",
+        "the logs of both.",
     ]
     missing = []
     for crate in crates:
-        edits = sorted((ROOT / "crates" / crate / "must-fail").glob("*.edit"))
+        tried = [(ROOT / "crates" / crate / "must-fail", ""), (ROOT / "planted" / crate, " *")]
+        edits = sorted((edit.stem, edit, star) for folder, star in tried for edit in folder.glob("*.edit"))
         if not edits:
             continue
         out += ["", f"## {crate}", "", "| Edit | Stood | Put in its place | Refused by |", "|---|---|---|---|"]
-        for edit in edits:
-            told = verdicts.get((crate, edit.stem))
+        for name, edit, star in edits:
+            told = verdicts.get((crate, name))
             if told is None:
-                missing.append(f"{crate}/{edit.stem}")
+                missing.append(f"{crate}/{name}")
                 by = ""
             else:
                 function, goal = refused_by(crate, told)
@@ -102,7 +104,7 @@ def main():
             turned = pairs(edit.read_text())
             old = "<br>".join(cell(o) for o, _ in turned)
             new = "<br>".join(cell(n) for _, n in turned)
-            out.append(f"| {edit.stem} | {old} | {new} | {by} |")
+            out.append(f"| {name}{star} | {old} | {new} | {by} |")
     (ROOT / "docs" / "EDITS.md").write_text("\n".join(out) + "\n")
     if missing:
         print("no verdict in the logs:", *missing, file=sys.stderr)

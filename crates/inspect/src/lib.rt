@@ -3,6 +3,7 @@
 
 pub mod damage;
 pub mod fault;
+pub mod files;
 pub mod key;
 pub mod leaf;
 pub mod tally;

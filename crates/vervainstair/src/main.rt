@@ -3,13 +3,12 @@
 #![tactic(auto)]
 
 use console::play::Console;
-use inspect::damage::show_damages;
-use inspect::tell::inspect;
+use inspect::files::{image_to, tell_damages, tell_image};
 use script::args::{Task, task_of};
 use std::alloc::Global;
 use std::io::{self, BufReader, BufWriter, Read, Write};
 use std::rt::Runtime;
-use std::{env, fs};
+use std::env;
 use sweep::show::{Manner, show_sweep};
 
 mod correction;
@@ -49,31 +48,6 @@ fn play_sweep(rt: &HostRuntime, alloc: Global, all: bool) -> io::Result<()> {
         progress: true,
     };
     show_sweep(rt, alloc, text.as_slice(), manner, &mut out)
-}
-
-// Plays the script, and writes the image of the words that are shown in the end.
-fn image_to(rt: &HostRuntime, alloc: Global, path: &str) -> io::Result<()> {
-    let reader = BufReader::new(alloc, rt.reader())?;
-    let out = BufWriter::new(alloc, io::writer(rt))?;
-    let mut console = Console::new(alloc, reader, out);
-    match console.play(true)? {
-        Some(octets) => fs::write(rt, path, octets.as_slice()),
-        None => Ok(()),
-    }
-}
-
-fn tell_image(rt: &HostRuntime, alloc: Global, path: &str) -> io::Result<()> {
-    let octets = fs::read(rt, path)?;
-    let mut out = BufWriter::new(alloc, io::writer(rt))?;
-    inspect(alloc, octets.as_slice(), &mut out)?;
-    out.flush()
-}
-
-fn tell_damages(rt: &HostRuntime, alloc: Global, path: &str) -> io::Result<()> {
-    let octets = fs::read(rt, path)?;
-    let mut out = BufWriter::new(alloc, io::writer(rt))?;
-    show_damages(alloc, octets.as_slice(), &mut out)?;
-    out.flush()
 }
 
 fn main(rt: HostRuntime) -> io::Result<()> {
