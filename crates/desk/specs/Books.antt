@@ -8,7 +8,8 @@ use Rattle.layers.specs.declared.chosen.Sort.{Sort}
 use Rattle.layers.specs.declared.layer.Layer.{Layer}
 use Rattle.tree.specs.Sound.{Sound}
 use Rattle.tree.specs.declared.logbook.State.TheVariants.{Blank}
-use Rattle.desk.specs.Answering.{Answers, port_written, stamp_written}
+use Rattle.tree.specs.Shape.{Shape, shape_of}
+use Rattle.desk.specs.Answering.{Answers, called_shape, port_written, stamp_written, words_after}
 use Rattle.desk.specs.Piles.{pile_words}
 use Rattle.desk.specs.declared.answer.Told.{Told}
 use Rattle.desk.specs.declared.answer.Trouble.{Trouble}
@@ -42,8 +43,29 @@ IsSound means (Unkind pile) = Unit {0}
 IsSound means (Stamps book) = Sound (in_words stamp_kind) (pile_words means book.memory).live book.state
 IsSound means (Ports book) = Sound (in_words port_kind) (pile_words means book.memory).live book.state
 
+-- How the logbook stands, where there is one.
+abbrev pub shape_in : {B : Type 0} → Book B → Option Shape
+shape_in (Unkind pile) = None
+shape_in (Stamps book) = Some (shape_of book.state)
+shape_in (Ports book) = Some (shape_of book.state)
+
 -- A call needs a kind of key, and is answered then by the logbook.
 abbrev pub BookAnswers : {B : Type 0} → (B → Words) → Book B → Result Told Trouble → Call → Type 0
 BookAnswers means (Unkind pile) r call = r ≡ Err (IsWrong NoKind)
 BookAnswers means (Stamps book) r call = Answers stamp_kind stamp_written (pile_words means book.memory) book.state book.taken r call
 BookAnswers means (Ports book) r call = Answers port_kind port_written (pile_words means book.memory) book.state book.taken r call
+
+-- It leaves the words of the pile, and how the logbook stands, as the logbook leaves them; without a kind all stays.
+abbrev pub BookLeaves : {B : Type 0} → (B → Words) → Book B → Book B → Call → Type 0
+BookLeaves means (Unkind pile) later call = pile_words means (pile_of later) ≡ pile_words means pile
+BookLeaves means (Stamps book) later call =
+    pile_words means (pile_of later) ≡ words_after stamp_kind stamp_written (pile_words means book.memory) book.state book.taken call
+BookLeaves means (Ports book) later call =
+    pile_words means (pile_of later) ≡ words_after port_kind port_written (pile_words means book.memory) book.state book.taken call
+
+abbrev pub BookStands : {B : Type 0} → (B → Words) → Book B → Book B → Call → Type 0
+BookStands means (Unkind pile) later call = shape_in later ≡ None
+BookStands means (Stamps book) later call =
+    shape_in later ≡ Some (called_shape stamp_kind stamp_written (pile_words means book.memory) book.state book.taken call)
+BookStands means (Ports book) later call =
+    shape_in later ≡ Some (called_shape port_kind port_written (pile_words means book.memory) book.state book.taken call)

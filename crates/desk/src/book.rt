@@ -1,10 +1,13 @@
 // The logbook that a script calls, for the kind of key that it has named.
-ghost use Rattle.std.specs.Prelude.{◌≡◌, Result};
+ghost use Rattle.std.specs.Prelude.{◌≡◌, ◌*◌, ◌^◌, ◌<◌, IfOk, Result};
+ghost use Rattle.image.specs.Image.{image};
+ghost use Rattle.memory.specs.Meaning.{size_of};
+ghost use Rattle.desk.specs.Piles.{pile_words};
 ghost use Rattle.keys.specs.InWords.{in_words};
 ghost use Rattle.tree.specs.Shape.{shape_of};
 ghost use Rattle.tree.specs.Sound.{Sound};
 ghost use Rattle.desk.specs.Answering.{Answers, called_shape, port_written, stamp_written, words_after};
-ghost use Rattle.desk.specs.Books.{BookAnswers, IsNew, IsSound, kind_of, pile_of};
+ghost use Rattle.desk.specs.Books.{BookAnswers, BookLeaves, BookStands, IsNew, IsSound, kind_of, pile_of};
 ghost use Rattle.desk.specs.declared.answer.Trouble.{Trouble};
 ghost use Rattle.script.specs.declared.line.Fields.{Fields};
 
@@ -151,6 +154,8 @@ impl<B: Probe> Book<B> {
     // The answer to one call.
     pub fn ask(&mut self, call: Call) -> Result<Told, Trouble>
         ensures answer { IsSound B.Memory.meaning self.old → BookAnswers B.Memory.meaning self.old result call }
+        ensures words { IsSound B.Memory.meaning self.old → BookLeaves B.Memory.meaning self.old self.new call }
+        ensures state { IsSound B.Memory.meaning self.old → BookStands B.Memory.meaning self.old self.new call }
         ensures kind { kind_of self.new ≡ kind_of self.old }
         ensures sound { IsSound B.Memory.meaning self.old → IsSound B.Memory.meaning self.new }
     {
@@ -161,7 +166,10 @@ impl<B: Probe> Book<B> {
         }
     }
     // The image of the words that the layers show.
-    pub fn octets(&mut self, alloc: Global) -> Result<Vec<u8>, AllocError> {
+    pub fn octets(&mut self, alloc: Global) -> Result<Vec<u8>, AllocError>
+        ensures image { 8 * size_of (pile_words B.Memory.meaning (pile_of self.old)) < 2 ^ 64 → IfOk result (λ octets. octets.items ≡ image (pile_words B.Memory.meaning (pile_of self.old)).live) }
+        ensures same { pile_words B.Memory.meaning (pile_of self.new) ≡ pile_words B.Memory.meaning (pile_of self.old) }
+    {
         match self {
             Book::Unkind(pile) => octets_of(alloc, pile),
             Book::Stamps(book) => octets_of(alloc, book.memory_mut()),

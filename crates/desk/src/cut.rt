@@ -6,7 +6,7 @@ ghost use Rattle.tree.specs.Cutting.{cut_answer, cut_shape};
 ghost use Rattle.tree.specs.Shape.{shape_of};
 ghost use Rattle.tree.specs.Sound.{Sound};
 ghost use Rattle.desk.specs.Books.{IsSound, kind_of, pile_of};
-ghost use Rattle.desk.specs.Cuts.{BookCuts, cut_told};
+ghost use Rattle.desk.specs.Cuts.{BookCuts, BookOpens, BookSettles, cut_told};
 
 use super::answer::{Told, Trouble};
 use super::book::Book;
@@ -23,6 +23,7 @@ fn cut<K: Key, M: Settle>(
 ) -> Result<Told, Trouble>
     ensures answer { result ≡ cut_told (cut_answer (in_words K.Key.kind) (settle_answer (M.Memory.meaning book.old.memory) choice.now) (after_settle (M.Memory.meaning book.old.memory) choice.now steps).live) }
     ensures words { M.Memory.meaning book.new.memory ≡ after_settle (M.Memory.meaning book.old.memory) choice.now steps }
+    ensures state { shape_of book.new.state ≡ cut_shape (in_words K.Key.kind) (settle_answer (M.Memory.meaning book.old.memory) choice.now) (after_settle (M.Memory.meaning book.old.memory) choice.now steps).live (shape_of book.old.state) }
     ensures sound { Sound (in_words K.Key.kind) (M.Memory.meaning book.old.memory).live book.old.state → Sound (in_words K.Key.kind) (M.Memory.meaning book.new.memory).live book.new.state }
 {
     book.cut(choice, steps)??;
@@ -33,6 +34,8 @@ impl<B: Settle> Book<B> {
     // A cut that settles the words by these choices, with new steps; answered as the opening after it is.
     pub fn cut(&mut self, choice: &[u64], steps: u64) -> Result<Told, Trouble>
         ensures answer { BookCuts B.Memory.meaning choice.now steps self.old result }
+        ensures words { BookSettles B.Memory.meaning choice.now steps self.old self.new }
+        ensures state { BookOpens B.Memory.meaning choice.now steps self.old self.new }
         ensures kind { kind_of self.new ≡ kind_of self.old }
         ensures sound { IsSound B.Memory.meaning self.old → IsSound B.Memory.meaning self.new }
     {

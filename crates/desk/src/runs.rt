@@ -1,6 +1,7 @@
 // The runs of words that a memory is made over.
-ghost use Rattle.std.specs.Prelude.{◌≡◌, IfOk, replicate};
+ghost use Rattle.std.specs.Prelude.{◌≡◌, IfErr, IfOk, replicate};
 ghost use Rattle.desk.specs.Making.{IsMade, IsRepeated};
+ghost use Rattle.script.specs.declared.wrong.Wrong.TheVariants.{TooManyWords};
 
 use script::line::Make;
 use script::wrong::Wrong;
@@ -23,7 +24,8 @@ pub enum Runs {
 
 // So many words 0.
 fn zeros(alloc: Global, words: u64) -> Result<Vec<u64>, Wrong>
-    ensures { IfOk result (λ run. run.items ≡ replicate words 0) }
+    ensures made { IfOk result (λ run. run.items ≡ replicate words 0) }
+    ensures refused { IfErr result (λ wrong. wrong ≡ TooManyWords) }
 {
     if words > MOST {
         return Err(Wrong::TooManyWords);
@@ -46,7 +48,8 @@ pub fn choice_run(alloc: Global, words: &[u64], length: usize) -> Result<Vec<u64
 
 // The runs of a new memory; refused where they are not to be had.
 pub fn make_runs(alloc: Global, make: Make) -> Result<Runs, Wrong>
-    ensures { IfOk result (IsMade make) }
+    ensures made { IfOk result (IsMade make) }
+    ensures refused { IfErr result (λ wrong. wrong ≡ TooManyWords) }
 {
     match make {
         Make::Through { words } => Ok(Runs::Through {

@@ -12,7 +12,8 @@ use std::alloc::{AllocError, Global};
 
 // The image of the words that a memory shows.
 pub fn octets_of<M: Memory>(alloc: Global, memory: &mut M) -> Result<Vec<u8>, AllocError>
-    ensures { 8 * size_of (M.Memory.meaning memory.old) < 2 ^ 64 → IfOk result (λ octets. octets.items ≡ image (M.Memory.meaning memory.old).live) }
+    ensures image { 8 * size_of (M.Memory.meaning memory.old) < 2 ^ 64 → IfOk result (λ octets. octets.items ≡ image (M.Memory.meaning memory.old).live) }
+    ensures same { M.Memory.meaning memory.new ≡ M.Memory.meaning memory.old }
 {
     let mut octets = vec![in alloc; 0; memory.size().saturating_mul(8)]?;
     let _ = image::write(memory, &mut octets);
