@@ -8,6 +8,7 @@ use Rattle.keys.specs.Dates.{valid_stamp}
 use Rattle.keys.specs.Identities.{valid_port}
 use Rattle.keys.specs.Stamps.{stamp_of, stamp_kind}
 use Rattle.keys.specs.declared.stamp.Stamp.{Stamp}
+use Rattle.plans.proofs.ExampleLaws.{example_holds}
 use Rattle.rows.specs.Rows.{Rows}
 
 -- What a test refuses is not made, what it takes is, and what is made is made so.
@@ -50,6 +51,10 @@ rows = record {
   first_of_2024 = refl;
   new_year = λ a b ms e f. rw (year_of 2023 365 86399999 a e, year_of 2024 1 ms b f);
   words = λ s e. form_of 2024 366 0 s e;
+  put_remove_put = refl;
+  three_elements = refl;
+  split_of_17 = refl;
+  steps_of_17 = example_holds.split.steps;
   leaf_64 = refl;
   line_18_of_19 = refl;
 }

@@ -6,7 +6,7 @@ ghost use Rattle.rows.specs.Rows.{Rows};
 #[cfg(test)]
 mod tests;
 
-// The worked rows of the rules on keys, layout and layers.
+// The worked rows of the rules on keys, calls, layout and layers.
 pub fn rows_stand()
     ensures { Rows }
 {}
