@@ -12,12 +12,12 @@ import sys
 ROOT = pathlib.Path(__file__).resolve().parent.parent
 VERDICT = re.compile(r"^rt: must-fail (\w+)/(\w+)\.edit: refused, as it must be(?: \(only because [^:]*: [^)]*\))?: (.*)$")
 FUNCTION = re.compile(r"^\s*(?:pub(?:\([a-z]+\))? )?(?:ghost )?fn (\w+)")
-IMPL = re.compile(r"^impl(?:<[^{]*?>)? (?:(\w+)(?:<.*?>)? for )?(\w+)")
+IMPL = re.compile(r"^impl(?:<[^{]*?>)? (?:([\w:]+)(?:<.*?>)? for )?(\w+)")
 
 
 def function_at(crate, file, line):
     """The function whose contract stands at a line of a source file."""
-    name, owner = "", ""
+    name, owner, pending = "", "", False
     lines = (ROOT / "crates" / crate / file).read_text().splitlines()
     for number, text in enumerate(lines, 1):
         if text.startswith("impl"):
@@ -28,7 +28,10 @@ def function_at(crate, file, line):
         found = FUNCTION.match(text)
         if found:
             name = f"{owner}::{found.group(1)}" if owner and text[0].isspace() else found.group(1)
-        if number >= line and name:
+        if number == line:
+            # a verdict may stand at an attribute, which belongs to the function below it
+            pending = text.strip().startswith("#[")
+        if number >= line and name and (found or not pending):
             return name
     return name
 
@@ -105,10 +108,10 @@ def main():
             old = "<br>".join(cell(o) for o, _ in turned)
             new = "<br>".join(cell(n) for _, n in turned)
             out.append(f"| {name}{star} | {old} | {new} | {by} |")
-    (ROOT / "docs" / "EDITS.md").write_text("\n".join(out) + "\n")
     if missing:
-        print("no verdict in the logs:", *missing, file=sys.stderr)
+        print("nothing is written; no verdict in the logs:", *missing, file=sys.stderr)
         return 1
+    (ROOT / "docs" / "EDITS.md").write_text("\n".join(out) + "\n")
     return 0
 
 

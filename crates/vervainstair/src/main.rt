@@ -6,9 +6,9 @@ use console::play::Console;
 use inspect::files::{image_to, tell_damages, tell_image};
 use script::args::{Task, task_of};
 use std::alloc::Global;
+use std::env;
 use std::io::{self, BufReader, BufWriter, Read, Write};
 use std::rt::Runtime;
-use std::env;
 use sweep::show::{Manner, show_sweep};
 
 mod correction;
