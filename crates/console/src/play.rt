@@ -3,7 +3,7 @@ use super::write::{write_answer, write_dump};
 use desk::answer::{Told, Trouble};
 use desk::book::Book;
 use desk::layered::Desk;
-use desk::runs::{Runs, choice_run, make_runs};
+use desk::runs::{Runs, kept_run, make_runs};
 use makes::buffered::Buffered;
 use makes::probe::Probe;
 use makes::through::Through;
@@ -90,14 +90,8 @@ impl<R: BufRead, W: Write> Console<R, W> {
         keeps: Keeps,
     ) -> io::Result<()> {
         let length = book.bottom().choices();
-        let choice = match keeps {
-            Keeps::Firm => choice_run(self.alloc, &[0], length)?,
-            Keeps::Live => choice_run(self.alloc, &[1], length)?,
-            Keeps::Mix => {
-                let mix = self.script.mix()?;
-                choice_run(self.alloc, mix.as_slice(), length)?
-            }
-        };
+        let mix = self.script.mix()?;
+        let choice = kept_run(self.alloc, keeps, mix.as_slice(), length)?;
         let answer = book.cut(choice.as_slice(), steps);
         self.answer(&answer)
     }

@@ -1,9 +1,9 @@
 // The runs of words that a memory is made over.
 ghost use Rattle.std.specs.Prelude.{◌≡◌, IfErr, IfOk, replicate};
-ghost use Rattle.desk.specs.Making.{IsMade, IsRepeated};
+ghost use Rattle.desk.specs.Making.{IsMade, IsRepeated, chosen_words};
 ghost use Rattle.script.specs.declared.wrong.Wrong.TheVariants.{TooManyWords};
 
-use script::line::Make;
+use script::line::{Keeps, Make};
 use script::wrong::Wrong;
 use std::alloc::{AllocError, Global};
 
@@ -35,7 +35,7 @@ fn zeros(alloc: Global, words: u64) -> Result<Vec<u64>, Wrong>
 }
 
 // A choice run: these words, repeated to a length.
-pub fn choice_run(alloc: Global, words: &[u64], length: usize) -> Result<Vec<u64>, AllocError>
+fn choice_run(alloc: Global, words: &[u64], length: usize) -> Result<Vec<u64>, AllocError>
     ensures { IfOk result (λ run. IsRepeated words.now length run.items) }
 {
     let mut run: Vec<u64> = vec![in alloc; 0; length]?;
@@ -44,6 +44,22 @@ pub fn choice_run(alloc: Global, words: &[u64], length: usize) -> Result<Vec<u64
         run[i] = words.get(i % period).copied().unwrap_or(0);
     }
     Ok(run)
+}
+
+// The choice run of a cut, by what it keeps: all firm words, all live ones, or a mix.
+pub fn kept_run(
+    alloc: Global,
+    keeps: Keeps,
+    mix: &[u64],
+    length: usize,
+) -> Result<Vec<u64>, AllocError>
+    ensures { IfOk result (λ run. IsRepeated (chosen_words keeps mix.now) length run.items) }
+{
+    match keeps {
+        Keeps::Firm => choice_run(alloc, &[0], length),
+        Keeps::Live => choice_run(alloc, &[1], length),
+        Keeps::Mix => choice_run(alloc, mix, length),
+    }
 }
 
 // The runs of a new memory; refused where they are not to be had.
