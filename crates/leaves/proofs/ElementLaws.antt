@@ -1,5 +1,5 @@
 -- What is read of a leaf's elements, said of the leaf's slots.
-use Rattle.std.proofs.Common.{◌≡◌, ℕ, zero, suc, ◌+◌, ◌<◌, true, false, cond, List, [], ◌∷◌, ◌++◌, length, get_or, take, drop, map, reverse, Some, Option, option_and_then, sym, refl, ap, ◌∙◌, arith}
+use Rattle.std.proofs.Common.{◌≡◌, ℕ, zero, suc, ◌+◌, ◌-◌, ◌<◌, Bool, true, false, cond, List, [], ◌∷◌, ◌++◌, length, get_or, take, drop, map, reverse, Some, Option, option_and_then, sym, refl, ap, ◌∙◌, arith}
 use Rattle.std.specs.List.{find, fold, range_with_len}
 use Rattle.std.proofs.lemmas.Bool.{cond-true, cond-false}
 use Rattle.std.proofs.lemmas.List.{drop_more, map-append, reverse-append, reverse-reverse}
@@ -64,6 +64,30 @@ module _ (o : WordKind) where
       ap (first_bad_of o bound (folded o [] (take i es)) i) (drop_more es i d h)
       ∙ ap (λ ps. cond (good o bound (folded o [] (take i es)) (get_or es i d)) (first_bad_of o bound ps (i + 1) (drop (i + 1) es)) (Some (i + 1))) (sym (fold_more (λ ps e. applied o e ps) [] es i d h))
 
+  -- one turn of looking for the first bad slot of n
+  slot_turn : (m : List ℕ) (bound : Option (ℕ × ℕ)) (k s n : ℕ) → s < n
+      → first_bad_of o bound (folded o [] (elements m k s)) s (map (element m k) (range_with_len s (n - s)))
+      ≡ cond (good o bound (folded o [] (elements m k s)) (element m k s)) (first_bad_of o bound (folded o [] (elements m k (s + 1))) (s + 1) (map (element m k) (range_with_len (s + 1) (n - (s + 1))))) (Some (s + 1))
+  slot_turn m bound k s n h =
+      let e = element m k s in
+      let es = elements m k s in
+      let left : n - s ≡ suc (n - (s + 1)) = omega arith in
+      let more = ap (folded o []) (map-range_with_len_more (element m k) 0 s s (omega arith)) ∙ fold_push (λ ps d. applied o d ps) [] es e in
+      ap (λ r. first_bad_of o bound (folded o [] es) s (map (element m k) (range_with_len s r))) left
+      ∙ ap (λ ps. cond (good o bound (folded o [] es) e) (first_bad_of o bound ps (s + 1) (map (element m k) (range_with_len (s + 1) (n - (s + 1))))) (Some (s + 1))) (sym more)
+
+  -- the same from what is told in it: `was` is what remains of the answer `all`
+  module _ {m n : List ℕ} (bound : Option (ℕ × ℕ)) (k s c : ℕ) {all : Option ℕ} {older : List Element} {e : Element} {r : Bool} (more : s < c)
+      (was : first_bad_of o bound (folded o [] (elements m k s)) s (map (element m k) (range_with_len s (c - s))) ≡ all) (same : n ≡ m) (list : older ≡ elements m k s) (one : e ≡ element n k s) (is : r ≡ good o bound (folded o [] older) e) where
+    turned : all ≡ cond r (first_bad_of o bound (folded o [] (elements m k (s + 1))) (s + 1) (map (element m k) (range_with_len (s + 1) (c - (s + 1))))) (Some (s + 1))
+    turned = rw (is, list, one, same) (sym was ∙ slot_turn m bound k s c more)
+
+    pub slot_bad : r ≡ false → all ≡ Some (s + 1)
+    slot_bad h = turned ∙ cond-false _ _ _ h
+
+    pub slot_good : r ≡ true → first_bad_of o bound (folded o [] (elements m k (s + 1))) (s + 1) (map (element m k) (range_with_len (s + 1) (c - (s + 1)))) ≡ all
+    slot_good h = sym (turned ∙ cond-true _ _ _ h)
+
   key_push : (es : List Element) (e : Element) → greatest_key o (es ++ e ∷ []) ≡ Some (later o e.key (greatest_key o es))
   key_push [] e = refl
   key_push (d ∷ es) e =
@@ -73,6 +97,10 @@ module _ (o : WordKind) where
   greatest_reduced m k zero = refl
   greatest_reduced m k (suc n) =
       ap (λ b. Some (later o (element m k n).key b)) (greatest_reduced m k n) ∙ sym (key_push (elements m k n) (element m k n)) ∙ ap (greatest_key o) (sym (elements_more m k n))
+
+  -- one turn of looking for the greatest key
+  pub greatest_slot : {m n : List ℕ} {key : ℕ × ℕ} {best : Option (ℕ × ℕ)} {more : ℕ × ℕ} (k s : ℕ) → n ≡ m → best ≡ greatest o m k s → key ≡ (element n k s).key → more ≡ later o key best → Some more ≡ greatest o m k (s + 1)
+  greatest_slot {m} k s same was read is = let e : s + 1 ≡ suc s = omega arith in rw e (cc)
 
 module _ (o : WordKind) (ordered : WordOrdered o) (w : ℕ × ℕ) where
   -- the newest element of a key decides, here of elements from the newest on

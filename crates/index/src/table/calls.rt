@@ -178,7 +178,7 @@ impl Index {
         if i > 90 {
             return Err(Refusal::Outside);
         }
-        *out = self.record(i);
+        self.show_node(i, out);
         Ok(())
     }
 }

@@ -9,29 +9,31 @@ use super::build::lowest;
 use crate::node::Node;
 use crate::record::{Holds, NodeRecord};
 
-// The bound of the last entry is not told.
-fn shown(node: &Node, low: bool) -> NodeRecord
-    ensures { told result ≡ telling low (items node.now) }
+// Fills the caller's record where it stands: a new one would be blanked and then copied over, all its room written twice. The
+// bound of the last entry is not told.
+fn show(node: &Node, low: bool, out: &mut NodeRecord)
+    ensures { told out.new ≡ telling low (items node.now) }
 {
-    let mut record = NodeRecord::new();
+    out.numbers.clear();
+    out.bounds.clear();
     let Some((last, front)) = node.entries.as_slice().split_last() else {
-        return record;
+        out.holds = Holds::Nothing;
+        return;
     };
-    record.holds = if low { Holds::Leaves } else { Holds::Children };
+    out.holds = if low { Holds::Leaves } else { Holds::Children };
     for e in front {
-        record.numbers.push(e.to).unwrap();
-        record.bounds.push(e.bound).unwrap();
+        out.numbers.push(e.to).unwrap();
+        out.bounds.push(e.bound).unwrap();
     }
-    record.numbers.push(last.to).unwrap();
-    record
+    out.numbers.push(last.to).unwrap();
 }
 
 impl Index {
-    // Node i as a record.
-    pub(crate) fn record(&self, i: usize) -> NodeRecord
+    // Fills the caller's record with node i, which is there.
+    pub(crate) fn show_node(&self, i: usize, out: &mut NodeRecord)
         requires { i < 91 }
-        ensures { told result ≡ node_told (grouped self.now) i }
+        ensures { told out.new ≡ node_told (grouped self.now) i }
     {
-        shown(&self.nodes[i], i >= lowest(self.used))
+        show(&self.nodes[i], i >= lowest(self.used), out);
     }
 }

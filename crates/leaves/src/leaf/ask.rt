@@ -7,8 +7,7 @@ ghost use Rattle.leaves.specs.Layout.{elements as elements_of};
 ghost use Rattle.leaves.specs.Pairs.{first_after, lookup, pairs};
 
 use super::{Elements, Pair, Seen};
-use crate::leaf::check::greatest;
-use crate::leaf::read::{elements, find_by_reads, start_of, word_at};
+use crate::leaf::read::{elements, find_by_reads, greatest_by_reads, start_of, word_at};
 use crate::leaf::sorted::{load, next};
 use keys::Key;
 use memory::Memory;
@@ -79,7 +78,12 @@ pub fn pairs_in<K: Key, M: Memory>(memory: &mut M, leaf: usize) -> Result<usize,
     ensures same { M.Memory.meaning memory.new ≡ M.Memory.meaning memory.old }
     ensures value { result ≡ counted (M.Memory.meaning memory.old).live leaf (λ n. length (pairs (in_words K.Key.kind) (M.Memory.meaning memory.old).live leaf n)) }
 {
-    let elements = elements_in(memory, leaf)?;
+    let count = count_in(memory, leaf)?;
+    // An empty leaf has no pairs, and no list is made to count them.
+    if count == 0 {
+        return Ok(0);
+    }
+    let elements = elements(memory, leaf, count);
     let run = load::<K>(&elements);
     Ok(run.len())
 }
@@ -92,6 +96,6 @@ pub fn greatest_in<K: Key, M: Memory>(
     ensures same { M.Memory.meaning memory.new ≡ M.Memory.meaning memory.old }
     ensures value { result ≡ counted (M.Memory.meaning memory.old).live leaf (greatest_of (in_words K.Key.kind) (M.Memory.meaning memory.old).live leaf) }
 {
-    let elements = elements_in(memory, leaf)?;
-    Ok(greatest::<K>(elements.as_slice()))
+    let count = count_in(memory, leaf)?;
+    Ok(greatest_by_reads::<K, M>(memory, leaf, count))
 }

@@ -1,12 +1,12 @@
 // Checking one leaf, for every content of the memory.
-ghost use Rattle.std.specs.Prelude.{◌≡◌, ◌&&◌, ◌||◌, ◌==◌, [], Ok, nat_le, nat_lt};
+ghost use Rattle.std.specs.Prelude.{◌≡◌, ◌≤◌, ◌&&◌, ◌||◌, ◌==◌, [], Ok, nat_le, nat_lt};
 ghost use Rattle.keys.specs.InWords.{in_words};
-ghost use Rattle.leaves.specs.Layout.{Within, count_of};
+ghost use Rattle.leaves.specs.Layout.{Within, count_of, elements as elements_of};
 ghost use Rattle.leaves.specs.Pairs.{folded};
 ghost use Rattle.leaves.specs.Opening.{sign_fits, after as after_bound, bad_leaf_of, good as good_element, first_bad_of, leaf_fault, checked, greatest as greatest_of, greatest_key};
 
-use super::Element;
-use crate::leaf::read::{elements, find, start_of, word_at};
+use super::{Element, Elements};
+use crate::leaf::read::{element, find, start_of, word_at};
 use crate::open::Fault;
 use keys::{Key, greater};
 use memory::Memory;
@@ -53,7 +53,7 @@ fn bad_leaf(leaf: usize, slot: usize) -> Fault
 }
 
 // The greatest key of the elements, if there are any.
-pub(crate) fn greatest<K: Key>(elements: &[Element]) -> Option<(u64, u64)>
+fn greatest<K: Key>(elements: &[Element]) -> Option<(u64, u64)>
     ensures { result ≡ greatest_key (in_words K.Key.kind) elements.now }
 {
     elements
@@ -62,20 +62,27 @@ pub(crate) fn greatest<K: Key>(elements: &[Element]) -> Option<(u64, u64)>
         .reduce(|a, b| greater::<K>(a, b))
 }
 
-// The greatest key of the elements, or the fault of the first bad one.
-fn check_elements<K: Key>(
+// The greatest key of the oldest `count` elements of the leaf, or the fault of the first bad one, after which no word is read.
+fn check_slots<K: Key, M: Memory>(
+    memory: &mut M,
     leaf: usize,
-    elements: &[Element],
+    count: usize,
     bound: Option<(u64, u64)>,
 ) -> Result<Option<(u64, u64)>, Fault>
-    ensures { result ≡ checked leaf (first_bad_of (in_words K.Key.kind) bound [] 0 elements.now) (Ok (greatest_key (in_words K.Key.kind) elements.now)) }
+    requires { (Within (M.Memory.meaning memory.old).live leaf) × (count ≤ 16) }
+    ensures same { M.Memory.meaning memory.new ≡ M.Memory.meaning memory.old }
+    ensures value { result ≡ checked leaf (first_bad_of (in_words K.Key.kind) bound [] 0 (elements_of (M.Memory.meaning memory.old).live leaf count)) (Ok (greatest_key (in_words K.Key.kind) (elements_of (M.Memory.meaning memory.old).live leaf count))) }
 {
-    for (slot, e) in elements.iter().enumerate() {
-        if !good::<K>(&elements[..slot], *e, bound) {
+    let mut read = Elements::new(Element::default());
+    // Counted: the memory is asked by the number of a slot, and each element is judged before the next one is read.
+    for slot in 0..count {
+        let e = element(memory, leaf, slot);
+        if !good::<K>(read.as_slice(), e, bound) {
             return Err(bad_leaf(leaf, slot + 1));
         }
+        read.push(e).unwrap();
     }
-    Ok(greatest::<K>(elements))
+    Ok(greatest::<K>(read.as_slice()))
 }
 
 // Whether a leaf can be one of a chain, by what it counts, its form, and whether it is the only one.
@@ -102,6 +109,5 @@ pub(crate) fn check<K: Key, M: Memory>(
     if !can_stand(count, form, alone) {
         return Err(bad_leaf(leaf, 0));
     }
-    let elements = elements(memory, leaf, count as usize);
-    check_elements::<K>(leaf, elements.as_slice(), bound)
+    check_slots::<K, M>(memory, leaf, count as usize, bound)
 }

@@ -1,10 +1,13 @@
 // Words and elements of one leaf, for every content of the memory.
 ghost use Rattle.std.specs.Prelude.{◌≡◌, ◌<◌, ◌≤◌, length};
 ghost use Rattle.fixed_vec.specs.Items.{items};
+ghost use Rattle.keys.specs.InWords.{in_words};
 ghost use Rattle.leaves.specs.Layout.{word, Within, leaf_at, element as element_at, elements as elements_of};
+ghost use Rattle.leaves.specs.Opening.{greatest as greatest_of, later as later_of};
 ghost use Rattle.leaves.specs.Pairs.{equal, held as held_by, latest};
 
 use super::{Element, Elements};
+use keys::{Key, greater};
 use memory::Memory;
 
 // The word that a leaf begins at.
@@ -23,7 +26,7 @@ pub(crate) fn word_at<M: Memory>(memory: &mut M, at: usize) -> u64
     memory.read(at).unwrap()
 }
 
-fn element<M: Memory>(memory: &mut M, leaf: usize, slot: usize) -> Element
+pub(crate) fn element<M: Memory>(memory: &mut M, leaf: usize, slot: usize) -> Element
     requires { (Within (M.Memory.meaning memory.old).live leaf) × (slot < 16) }
     ensures same { M.Memory.meaning memory.new ≡ M.Memory.meaning memory.old }
     ensures value { result ≡ element_at (M.Memory.meaning memory.old).live leaf slot }
@@ -94,6 +97,45 @@ pub(crate) fn find_by_reads<M: Memory>(
         }
     }
     None
+}
+
+// The key of the element in a slot.
+fn key_at<M: Memory>(memory: &mut M, leaf: usize, slot: usize) -> (u64, u64)
+    requires { (Within (M.Memory.meaning memory.old).live leaf) × (slot < 16) }
+    ensures same { M.Memory.meaning memory.new ≡ M.Memory.meaning memory.old }
+    ensures value { result ≡ (element_at (M.Memory.meaning memory.old).live leaf slot).key }
+{
+    let start = start_of(leaf) + 8 + 4 * slot;
+    let first = word_at(memory, start + 1);
+    let second = word_at(memory, start + 2);
+    (first, second)
+}
+
+// The greatest key with one key more, where `best` is the greatest without it, if there is one.
+fn greatest_with<K: Key>(key: (u64, u64), best: Option<(u64, u64)>) -> (u64, u64)
+    ensures { result ≡ later_of (in_words K.Key.kind) key best }
+{
+    best.map_or(key, |b| greater::<K>(b, key))
+}
+
+// The greatest key of the oldest `count` elements of the leaf, if there are any. Only the words of keys are read, and no list is made:
+// one would cost more than the search.
+pub(crate) fn greatest_by_reads<K: Key, M: Memory>(
+    memory: &mut M,
+    leaf: usize,
+    count: usize,
+) -> Option<(u64, u64)>
+    requires { (Within (M.Memory.meaning memory.old).live leaf) × (count ≤ 16) }
+    ensures same { M.Memory.meaning memory.new ≡ M.Memory.meaning memory.old }
+    ensures value { result ≡ greatest_of (in_words K.Key.kind) (M.Memory.meaning memory.old).live leaf count }
+{
+    let mut best = None;
+    // Counted, as in `elements`.
+    for slot in 0..count {
+        let key = key_at(memory, leaf, slot);
+        best = Some(greatest_with::<K>(key, best));
+    }
+    best
 }
 
 // What an element says of its key.
